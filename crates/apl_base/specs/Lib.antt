@@ -1,0 +1,4 @@
+pub mod Array
+pub mod Number
+pub mod Scalar
+pub mod Selection

@@ -1,0 +1,53 @@
+/// Memory was wanting. No contract says when.
+#[derive(Clone, Copy, Debug, PartialEq, Eq)]
+pub struct NoMemory;
+
+/// Lengths that are no shape: more than 8, or one or their product above 2^40.
+#[derive(Clone, Copy, Debug, PartialEq, Eq)]
+pub struct TooLarge;
+
+/// A line of the script and a column of it, both counted from 1.
+#[derive(Clone, Copy, Debug, PartialEq, Eq)]
+pub struct Place {
+    pub line: u32,
+    pub column: u32,
+}
+
+/// The errors of the language, as `DOMAIN ERROR`.
+#[derive(Clone, Copy, Debug, PartialEq, Eq)]
+pub enum ErrorKind {
+    Value,
+    Domain,
+    Length,
+    Rank,
+    Index,
+    Limit,
+    Depth,
+}
+
+/// Why a script is refused before anything of it is run.
+#[derive(Clone, Copy, Debug, PartialEq, Eq)]
+pub enum Cause {
+    TooLong,
+    Utf8,
+    Character,
+    LineLong,
+    Number,
+    OpenText,
+    Header,
+    DoubleName,
+    OpenDefinition,
+    NameClass,
+    Deep,
+    Grammar,
+    /// A form of the language that this version doesn't run yet.
+    NotBuilt,
+}
+
+/// The refusal of a script: where, and why.
+#[derive(Clone, Copy, Debug, PartialEq, Eq)]
+pub struct Refusal {
+    pub line: u32,
+    pub column: u32,
+    pub cause: Cause,
+}

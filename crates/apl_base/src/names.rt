@@ -1,0 +1,26 @@
+use std::marker::Model;
+
+/// A name, which contracts see as the list of its characters.
+#[derive(Drop)]
+pub struct Name {
+    text: String,
+}
+
+impl Model for Name {
+    ghost use Rattle.std.specs.Prelude.{ℕ, List};
+    ghost use Rattle.std.specs.Str.{chars};
+    ghost use Rattle.std.specs.String.{string_bytes};
+
+    ghost Value = { List ℕ };
+
+    ghost view = { λ n. chars (string_bytes n.text) };
+}
+
+// The contracts of the calls on a name (bodies to come):
+//
+//  /// The name of this text.
+//  pub fn of(alloc: Global, text: &str) -> Result<Name, NoMemory>  ensures { IfOk result (λ n. n ≡ chars text.now) }
+//  pub fn copy(&self, alloc: Global) -> Result<Name, NoMemory>  ensures { IfOk result (λ n. n ≡ self.now) }
+//  pub fn as_str(&self) -> &str
+//      ensures characters { chars result.now ≡ self.now } ensures bytes { result.now ≡ encode_utf8_all self.now }
+//  pub fn is(&self, other: &Name) -> bool  ensures { IsTrue result ↔ (self.now ≡ other.now) }
