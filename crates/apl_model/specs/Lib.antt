@@ -1,2 +1,9 @@
 pub mod Tree
 pub mod Mirror
+pub mod Characters
+pub mod Tokens
+pub mod Lines
+pub mod Spelling
+pub mod Grammar
+pub mod Script
+pub mod Refusal
