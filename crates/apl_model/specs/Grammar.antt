@@ -1,12 +1,11 @@
 -- Which trees are those of the language, over given classes of names.
-use Rattle.std.specs.Prelude.{◌≡◌, ℕ, ◌<◌, ◌≤◌, ◌^◌, ◌==◌, ◌⊎◌, if◌then◌else◌, IsTrue, nat_eq, List, [], ◌∷◌, length, Option, Some, None, ℤ, pos}
+use Rattle.std.specs.Prelude.{◌≡◌, ℕ, ◌<◌, ◌≤◌, ◌^◌, ◌⊎◌, if◌then◌else◌, IsTrue, List, [], ◌∷◌, length, Option, Some, None, pos}
 use Rattle.std.specs.List.{AllByRecursion}
-use Rattle.std.specs.Option.{OnSome, IfSome, IsSome}
-use lib.Pointwise.{pointwise}
-use Rattle.std.specs.Prelude.{Bool}
+use Rattle.std.specs.Option.{IsSome}
 use Rattle.apl_base.specs.Number.{IsNumber, IsCell}
 use Rattle.apl_base.specs.declared.cells.Kind.TheVariants as kind
 use Rattle.apl_model.specs.Characters.{is_name}
+use Rattle.apl_model.specs.Environment.{is_same_name}
 use Rattle.apl_model.specs.Tree.{Tree, constant, variable, call, parenthesis, monadic, dyadic, reduction, outer_product, inner_product, subscript, assignment, indexed_assignment, output, Slot, elided, given, Positions, no_position, position, Statement, nothing, branch, expression}
 use Rattle.apl_model.specs.declared.functions.Axis.{Axis}
 use Rattle.apl_model.specs.declared.functions.Axis.TheVariants as axis
@@ -20,13 +19,10 @@ use Rattle.apl_model.specs.declared.scripts.Header.{Header}
 use Rattle.apl_model.specs.declared.tokens.Heading.{Heading}
 use Rattle.apl_model.specs.declared.trees.Literal.{Literal}
 
-abbrev pub same_name : List ℕ → List ℕ → Bool
-same_name = pointwise nat_eq
-
 -- how many arguments the function of this name has, or none where the name heads no definition
 abbrev pub arguments_of : List Heading → List ℕ → Option ℕ
 arguments_of [] n = None
-arguments_of (h ∷ hs) n = if same_name h.name n then Some h.arguments else arguments_of hs n
+arguments_of (h ∷ hs) n = if is_same_name h.name n then Some h.arguments else arguments_of hs n
 
 -- a name that heads no definition: that of a variable
 pub record IsVariable (hs : List Heading) (n : List ℕ) : Type 0 where

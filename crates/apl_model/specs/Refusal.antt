@@ -1,5 +1,5 @@
 -- The refusals of a script, the first of them, and the scripts that are accepted.
-use Rattle.std.specs.Prelude.{◌≡◌, ℕ, ◌+◌, ◌*◌, ◌-◌, ◌<◌, ◌≤◌, ◌^◌, ◌==◌, ◌⊎◌, true, false, if◌then◌else◌, Bool, nat_lt, List, [], ◌∷◌, ◌++◌, length, codes, slice_get, Option, Some, None}
+use Rattle.std.specs.Prelude.{◌≡◌, ℕ, ◌+◌, ◌*◌, ◌-◌, ◌<◌, ◌≤◌, ◌^◌, ◌==◌, ◌⊎◌, true, false, if◌then◌else◌, nat_lt, List, [], ◌∷◌, ◌++◌, length, codes, slice_get, Option, Some, None}
 use Rattle.std.specs.List.{IsAmong}
 use Rattle.std.specs.Str.Lossy.{utf8_valid_len}
 use Rattle.apl_base.specs.declared.faults.Cause.{Cause}
@@ -8,8 +8,8 @@ use Rattle.apl_base.specs.declared.faults.Refusal.{Refusal}
 use Rattle.apl_model.specs.Characters.{is_one_of}
 use Rattle.apl_model.specs.Grammar.{IsStatement, IsCommand, IsHeader, IsOptionalName}
 use Rattle.apl_model.specs.Lines.{readable, without_mark, lines_of}
-use Rattle.apl_model.specs.Script.{is_glyph_token, Part, alone, defined, parts, opens, closes, heading_of, IsHeadOf, count, IsScript}
-use Rattle.apl_model.specs.Spelling.{Spell, glyph, statement_spelling, body_spelling, command_spelling, header_spelling}
+use Rattle.apl_model.specs.Script.{is_glyph_token, Part, alone, defined, parts, closes, heading_of, IsHeadOf, count, IsScript}
+use Rattle.apl_model.specs.Spelling.{Spell, statement_spelling, body_spelling, command_spelling, header_spelling}
 use Rattle.apl_model.specs.Tokens.{Piece, pieces, IsRead, fault}
 use Rattle.apl_model.specs.Tree.{Statement, Script}
 use Rattle.apl_model.specs.declared.scripts.Command.{Command}

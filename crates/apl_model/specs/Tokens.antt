@@ -6,7 +6,6 @@ use Rattle.apl_base.specs.declared.faults.Cause.{Cause}
 use Rattle.apl_base.specs.declared.faults.Cause.TheVariants as cause
 use Rattle.apl_model.specs.Characters.{code, is_blank, is_letter, is_name_part, begins_number, is_number_part, is_glyph, read_as, number_of}
 use Rattle.apl_model.specs.declared.tokens.Token.{Token}
-use Rattle.apl_model.specs.declared.tokens.Word.{Word}
 use Rattle.apl_model.specs.declared.tokens.Word.TheVariants as word
 
 -- what a piece of a line is: a number, a text, a name, a glyph, or a fault
