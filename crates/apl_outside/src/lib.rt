@@ -1,0 +1,11 @@
+//! Where scripts come from and where printed bytes go: sources and sinks, those in memory, and those over the
+//! readers and writers of std.
+#![tactic(auto)]
+
+mod sinks;
+mod sources;
+mod whole;
+
+pub use sinks::Sink;
+pub use sources::{Failed, Source};
+pub use whole::{ReadEnd, push_all, read_all};
