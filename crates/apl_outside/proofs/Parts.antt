@@ -1,7 +1,7 @@
 -- One call after another: what the second takes or adds follows what the first did.
 use Rattle.std.proofs.Common.{◌≡◌, ℕ, ◌+◌, ◌≤◌, List, ◌++◌, length, take, drop, Option, arith, length-append, ap, ◌∙◌, sym}
 use Rattle.std.proofs.lemmas.Grind.{common_steps}
-use Rattle.std.proofs.lemmas.List.{take-append-drop, drop-take, take-take, length-take-le}
+use Rattle.std.proofs.lemmas.List.{take-append-drop, drop-take, take-take, take_at, drop-drop, length-take-le}
 use Rattle.apl_outside.specs.Bytes.{Loses, Gains, LosesCount, LosesUpTo}
 
 pub gains_then : (a b c : Option (List ℕ)) (xs ys : List ℕ) → Gains a b xs → Gains b c ys → Gains a c (xs ++ ys)
@@ -21,3 +21,12 @@ take_further d n xs =
 -- how long a list is with the front of another behind it
 pub length_with_front : (xs ys : List ℕ) (n : ℕ) → n ≤ length ys → length (xs ++ take n ys) ≡ length xs + n
 length_with_front xs ys n fits = omega (arith, length-append xs (take n ys), length-take-le n ys fits)
+
+-- the front of a list, copied over the front of a buffer, with what is behind it in the list
+pub front_given : (bytes given buf : List ℕ) (at n : ℕ) → given ≡ take n (drop at bytes) → n ≤ length (drop at bytes) → drop at bytes ≡ take n (given ++ drop n buf) ++ drop (at + n) bytes
+front_given bytes given buf at n same fits =
+    let size : length given ≡ n = ap length same ∙ length-take-le n (drop at bytes) fits in
+    let front : take n (given ++ drop n buf) ≡ given = take_at given (drop n buf) n size in
+    let behind : drop n (drop at bytes) ≡ drop (at + n) bytes = drop-drop n at bytes in
+    let whole : take n (drop at bytes) ++ drop n (drop at bytes) ≡ drop at bytes = take-append-drop n (drop at bytes) in
+    cc
