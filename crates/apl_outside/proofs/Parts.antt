@@ -1,8 +1,8 @@
 -- One call after another: what the second takes or adds follows what the first did.
-use Rattle.std.proofs.Common.{◌≡◌, ℕ, ◌+◌, ◌≤◌, List, ◌++◌, length, take, drop, Option, arith, length-append, ap, ◌∙◌, sym}
+use Rattle.std.proofs.Common.{◌≡◌, ℕ, ◌+◌, ◌≤◌, List, ◌++◌, length, take, drop, Option, arith, length-append, ap, ◌∙◌, refl}
 use Rattle.std.proofs.lemmas.Grind.{common_steps}
-use Rattle.std.proofs.lemmas.List.{take-append-drop, drop-take, take-take, take_at, drop-drop, length-take-le}
-use Rattle.apl_outside.specs.Bytes.{Loses, Gains, LosesCount, LosesUpTo}
+use Rattle.std.proofs.lemmas.List.{take-append-drop, drop-take, take-take, take_at, drop_at, drop-drop, length-take-le}
+use Rattle.apl_outside.specs.Bytes.{Loses, Gains, GainsPart}
 
 pub gains_then : (a b c : Option (List ℕ)) (xs ys : List ℕ) → Gains a b xs → Gains b c ys → Gains a c (xs ++ ys)
 gains_then a b c xs ys first then = grind (arith, common_steps)
@@ -30,3 +30,19 @@ front_given bytes given buf at n same fits =
     let behind : drop n (drop at bytes) ≡ drop (at + n) bytes = drop-drop n at bytes in
     let whole : take n (drop at bytes) ++ drop n (drop at bytes) ≡ drop at bytes = take-append-drop n (drop at bytes) in
     cc
+
+-- the front of two lists in turn that reaches into the second
+pub take_into_second : (xs ys : List ℕ) (n : ℕ) → take (length xs + n) (xs ++ ys) ≡ xs ++ take n ys
+take_into_second xs ys n =
+    let front : take (length xs) (xs ++ ys) ≡ xs = take_at xs ys (length xs) refl in
+    let behind : drop (length xs) (xs ++ ys) ≡ ys = drop_at xs ys (length xs) refl in
+    let both = take_further (length xs) n (xs ++ ys) in
+    cc
+
+-- all of one piece and then a part of the next is a part of the two in turn
+pub part_after_all : (first second third : Option (List ℕ)) (xs ys : List ℕ) → Gains first second xs → GainsPart second third ys → GainsPart first third (xs ++ ys)
+part_after_all first second third xs ys all then = record {
+  count = length xs + then.count;
+  part = omega (arith, length-append xs ys, then.part);
+  gained = rw (take_into_second xs ys then.count) (gains_then first second third xs (take then.count ys) all then.gained);
+}
