@@ -1,7 +1,7 @@
 -- Facts on the product of a shape's lengths, on places and on indices.
 use Rattle.std.proofs.Common.{◌≡◌, ℕ, zero, suc, ◌+◌, ◌-◌, ◌*◌, ◌/◌, ◌%◌, ◌^◌, ◌<◌, ◌≤◌, min, List, [], ◌∷◌, ◌++◌, length, get_or, take, drop, refl, sym, ap, ◌∙◌, ◌⊎◌, inl, inr, arith, add-one, append_assoc, length-append}
 use Rattle.std.proofs.Math.Seq.{take-suc, drop-cons}
-use Rattle.std.proofs.Math.Nat.{div-add-mod, mul-div_cancel_left, mul-pos, mul-le-mul_left, mul-le-mul_right, le-mul_of_pos_right, mod-lt, div-lt_iff_lt-mul}
+use Rattle.std.proofs.Math.Nat.{div-add-mod, mul-div_cancel_left, mul-pos, mul-le-mul_right, le-mul_of_pos_right, mod-lt, div-lt_iff_lt-mul}
 use Rattle.std.proofs.Math.ListN.{drop_of_length-le}
 use Rattle.std.proofs.lemmas.List.{append-nil}
 use Rattle.std.proofs.lemmas.Bool.{cases_lt}

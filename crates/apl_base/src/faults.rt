@@ -7,7 +7,7 @@ pub struct NoMemory;
 impl From<AllocError> for NoMemory {
     ghost use Rattle.std.specs.Prelude.{◌≡◌};
 
-    ghost from_gives = { λ _ e. e ≡ record { } };
+    ghost from_gives = { λ _ e. e ≡ record {} };
 
     fn from(_fault: AllocError) -> NoMemory {
         NoMemory
@@ -17,7 +17,7 @@ impl From<AllocError> for NoMemory {
 impl<T: Drop> From<AllocFailed<T>> for NoMemory {
     ghost use Rattle.std.specs.Prelude.{◌≡◌};
 
-    ghost from_gives = { λ _ e. e ≡ record { } };
+    ghost from_gives = { λ _ e. e ≡ record {} };
 
     fn from(_fault: AllocFailed<T>) -> NoMemory {
         NoMemory

@@ -1,6 +1,5 @@
-use Rattle.std.proofs.Common.{◌≡◌, ◌+◌, ◌*◌, ◌^◌, ◌<◌, ◌≤◌, refl, arith, inl, inr}
-use Rattle.apl_base.specs.Array.{size_of, place_at}
-use Rattle.apl_base.proofs.Sizes.{RowMajor, RowMajor-start, RowMajor-round, RowMajor-small, RowMajor-end, place_at-below}
+use Rattle.std.proofs.Common.{◌≡◌, ◌+◌, ◌*◌, ◌^◌, ◌<◌, arith, inl, inr}
+use Rattle.apl_base.proofs.Sizes.{RowMajor-start, RowMajor-round, RowMajor-small, RowMajor-end, place_at-below}
 use Rattle.apl_base.proofs.shapes.row_major_place.Goals as goal
 
 pub loop-n-init : goal.loop-n-init

@@ -1,6 +1,5 @@
-use Rattle.std.proofs.Common.{◌≡◌, ◌∙◌, sym, ◌+◌, ◌^◌, ◌<◌, ◌≤◌, length, refl, arith}
-use Rattle.apl_base.specs.Array.{size_of, IsIndex, place_at, index_at}
-use Rattle.apl_base.proofs.Sizes.{Digits, Digits-start, Digits-length, Digits-stride, Digits-round, Digits-end, IsIndex-index_at, place_at-index_at}
+use Rattle.std.proofs.Common.{◌≡◌, ◌∙◌, ◌≤◌, length, arith}
+use Rattle.apl_base.proofs.Sizes.{Digits-start, Digits-length, Digits-stride, Digits-round, Digits-end, IsIndex-index_at, place_at-index_at}
 use Rattle.apl_base.proofs.shapes.Shape.index_of.Goals as goal
 
 pub loop-n-init : goal.loop-n-init
