@@ -1,4 +1,5 @@
 pub mod Array
+pub mod Interval
 pub mod Number
 pub mod Scalar
 pub mod Selection

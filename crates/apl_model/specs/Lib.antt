@@ -1,0 +1,12 @@
+pub mod Call
+pub mod Environment
+pub mod Evaluation
+pub mod Immediate
+pub mod Lift
+pub mod Made
+pub mod Mirror
+pub mod Printed
+pub mod Product
+pub mod Subscript
+pub mod Tree
+pub mod Whole
