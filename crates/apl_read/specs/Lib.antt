@@ -1,4 +1,3 @@
 pub mod Answer
-pub mod Examples
 pub mod Lines
 pub mod Sums

@@ -44,14 +44,19 @@ line_of (byte ∷ bytes) =
 abbrev pub too_long : Refusal
 too_long = record { line = 0; column = 0; cause = TooLong }
 
+-- the refusal of a line that is not of the form
+abbrev pub not_built : ℕ → Refusal
+not_built number = record { line = number; column = 1; cause = NotBuilt }
+
+-- a line that says something is not refused, and the later lines decide
+abbrev pub refusal_unless : Option Line → Refusal → Option Refusal → Option Refusal
+refusal_unless (Some line) refusal later = later
+refusal_unless None refusal later = Some refusal
+
 -- the refusal of the first of these lines that is not of the form, where the first of all has this number
 abbrev pub refusal_from : ℕ → List (List ℕ) → Option Refusal
 refusal_from number [] = None
-refusal_from number (text ∷ texts) = refusal_unless (line_of text) number (refusal_from (number + 1) texts)
-  where
-    refusal_unless : Option Line → ℕ → Option Refusal → Option Refusal
-    refusal_unless (Some line) number later = later
-    refusal_unless None number later = Some (record { line = number; column = 1; cause = NotBuilt })
+refusal_from number (text ∷ texts) = refusal_unless (line_of text) (not_built number) (refusal_from (number + 1) texts)
 
 -- the first refusal of a script, by the place in it; an accepted script has none
 abbrev pub refusal_of : List ℕ → Option Refusal

@@ -44,7 +44,7 @@ prefix-sent a b bytes back s = record { front = s.front; rest = back; whole = s.
 pub prefix-part : (a b c : Option (List ℕ)) (bytes back piece rest : List ℕ) → Sent a b bytes back → back ≡ piece ++ rest → GainsPart b c piece → GainsPrefix a c bytes
 prefix-part a b c bytes back piece rest s e p =
     let cut : take p.count piece ++ (drop p.count piece ++ rest) ≡ back =
-        sym (append_assoc (take p.count piece) (drop p.count piece) rest) ∙ ap (λ xs. xs ++ rest) (take-append-drop p.count piece) ∙ sym e in
+    sym (append_assoc (take p.count piece) (drop p.count piece) rest) ∙ ap (λ xs. xs ++ rest) (take-append-drop p.count piece) ∙ sym e in
     prefix-sent a c bytes (drop p.count piece ++ rest) (sent-more a b c bytes back (take p.count piece) (drop p.count piece ++ rest) s (sym cut) p.gained)
 
 -- with the last piece all is sent

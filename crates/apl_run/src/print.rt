@@ -84,7 +84,11 @@ fn words_of(cause: Cause) -> &'static str
 fn line_of_refusal(alloc: Global, refusal: &Refusal) -> Result<String, AllocError>
     ensures { IfOk result (λ text. string_bytes text ≡ refusal_line refusal.now) }
 {
-    let Refusal { line, column, cause } = *refusal;
+    let Refusal {
+        line,
+        column,
+        cause,
+    } = *refusal;
     let words = words_of(cause);
     let text = format!(in alloc; "REFUSED {line} {column} {words}\n")?;
     Ok(text)
@@ -102,7 +106,11 @@ fn push_text<O: Sink>(out: &mut O, text: &str) -> Result<(), PrintFault>
 }
 
 /// Prints the line of a refusal.
-pub(crate) fn print_refusal<O: Sink>(alloc: Global, refusal: &Refusal, out: &mut O) -> Result<(), PrintFault>
+pub(crate) fn print_refusal<O: Sink>(
+    alloc: Global,
+    refusal: &Refusal,
+    out: &mut O,
+) -> Result<(), PrintFault>
     ensures ok { OnOk result (Gains (O.written out.old) (O.written out.new) (refusal_line refusal.now)) }
     ensures err { OnErr result (GainsPrefix (O.written out.old) (O.written out.new) (refusal_line refusal.now)) }
     ensures rose { IsErrOf result PrintFault.OutFault → Rose (O.faults out.old) (O.faults out.new) }
@@ -115,7 +123,11 @@ pub(crate) fn print_refusal<O: Sink>(alloc: Global, refusal: &Refusal, out: &mut
 }
 
 /// Prints what the lines print.
-pub(crate) fn print_lines<O: Sink>(alloc: Global, lines: &[Line], out: &mut O) -> Result<(), PrintFault>
+pub(crate) fn print_lines<O: Sink>(
+    alloc: Global,
+    lines: &[Line],
+    out: &mut O,
+) -> Result<(), PrintFault>
     ensures ok { OnOk result (Gains (O.written out.old) (O.written out.new) (flat_map printed lines.now)) }
     ensures err { OnErr result (GainsPrefix (O.written out.old) (O.written out.new) (flat_map printed lines.now)) }
     ensures rose { IsErrOf result PrintFault.OutFault → Rose (O.faults out.old) (O.faults out.new) }

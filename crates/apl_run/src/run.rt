@@ -16,7 +16,13 @@ use std::alloc::Global;
 /// Runs the script that the source has left: `words` are those of the command line, `out` is given what is
 /// printed, and `tr` the trace. What is said of the script holds where the source tells its bytes, and what is
 /// said of bytes where the sink tells what is written.
-pub fn aplm<S: Source, O: Sink, T: Sink>(alloc: Global, words: &[String], src: &mut S, out: &mut O, tr: &mut T) -> Ended
+pub fn aplm<S: Source, O: Sink, T: Sink>(
+    alloc: Global,
+    words: &[String],
+    src: &mut S,
+    out: &mut O,
+    tr: &mut T,
+) -> Ended
     // The status and the printed bytes are those of immediate evaluation, where the run is not cut short.
     ensures status { IsAnswer result.status → IfSome (S.left src.old) (λ script. result.status ≡ (immediate script).status) }
     ensures bytes { IsAnswer result.status → IfSome (S.left src.old) (λ script. Gains (O.written out.old) (O.written out.new) (immediate script).bytes) }
@@ -46,11 +52,20 @@ pub fn aplm<S: Source, O: Sink, T: Sink>(alloc: Global, words: &[String], src: &
 {
     let status = run_words(alloc, words, src, out);
     push_last_line(&status, tr);
-    Ended { status, ws: Workspace { origin: 1 }, costs: Vec::new(alloc) }
+    Ended {
+        status,
+        ws: Workspace { origin: 1 },
+        costs: Vec::new(alloc),
+    }
 }
 
 /// Runs the script that the source has left, unless there are words.
-fn run_words<S: Source, O: Sink>(alloc: Global, words: &[String], src: &mut S, out: &mut O) -> Status
+fn run_words<S: Source, O: Sink>(
+    alloc: Global,
+    words: &[String],
+    src: &mut S,
+    out: &mut O,
+) -> Status
     ensures status { IsAnswer result → IfSome (S.left src.old) (λ script. result ≡ (immediate script).status) }
     ensures bytes { IsAnswer result → IfSome (S.left src.old) (λ script. Gains (O.written out.old) (O.written out.new) (immediate script).bytes) }
     ensures prefix { IsCutShort result → IfSome (S.left src.old) (λ script. GainsPrefix (O.written out.old) (O.written out.new) (immediate script).bytes) }
@@ -69,7 +84,15 @@ fn run_words<S: Source, O: Sink>(alloc: Global, words: &[String], src: &mut S, o
     }
     match read_all(alloc, src, MOST_BYTES) {
         Ok(script) => run_script(alloc, script.as_slice(), out),
-        Err(ReadEnd::TooLong) => refuse(alloc, Refusal { line: 0, column: 0, cause: Cause::TooLong }, out),
+        Err(ReadEnd::TooLong) => refuse(
+            alloc,
+            Refusal {
+                line: 0,
+                column: 0,
+                cause: Cause::TooLong,
+            },
+            out,
+        ),
         Err(ReadEnd::Failed) => Status::ReadFault,
         Err(ReadEnd::NoMemory) => Status::NoMemory,
     }
