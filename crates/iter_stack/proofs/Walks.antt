@@ -1,5 +1,5 @@
 -- Facts on the two walks over the indices of a shape.
-use Rattle.std.proofs.Common.{◌≡◌, ℕ, zero, suc, ◌+◌, ◌-◌, ◌*◌, ◌/◌, ◌%◌, ◌<◌, ◌≤◌, Bool, true, false, cond, List, [], ◌∷◌, ◌++◌, map, length, get_or, set, take, drop, refl, sym, ap, ◌∙◌, inl, inr, arith, add-one}
+use Rattle.std.proofs.Common.{◌≡◌, ℕ, zero, suc, ◌+◌, ◌-◌, ◌*◌, ◌<◌, ◌≤◌, Bool, true, false, List, [], ◌∷◌, ◌++◌, map, length, get_or, set, drop, refl, sym, ap, ◌∙◌, inl, inr, arith, add-one}
 use Rattle.std.proofs.Math.Seq.{drop-cons, drop-length}
 use Rattle.std.proofs.Math.ListN.{drop_of_length-le}
 use Rattle.std.proofs.lemmas.Bool.{cases_lt}
@@ -53,7 +53,7 @@ rows m ns a (suc n) =
     let e : suc n * size_of ns ≡ size_of ns + n * size_of ns = omega arith in
     let f : a * size_of ns + size_of ns ≡ suc a * size_of ns = omega arith in
     let first : map (index_at (m ∷ ns)) (upward (a * size_of ns) (size_of ns)) ≡ map (λ is. a ∷ is) (map (index_at ns) (upward 0 (size_of ns))) =
-        ap (λ x. map (index_at (m ∷ ns)) (upward x (size_of ns))) (zero_more (a * size_of ns)) ∙ row m ns a 0 (size_of ns) (omega arith)
+    ap (λ x. map (index_at (m ∷ ns)) (upward x (size_of ns))) (zero_more (a * size_of ns)) ∙ row m ns a 0 (size_of ns) (omega arith)
     in
     rw (e, upward-append (a * size_of ns) (size_of ns) (n * size_of ns), map-append, f, first, rows m ns (suc a) n) refl
 
@@ -153,8 +153,8 @@ no_more back ns k i left e h =
 pub walk-next : (back : Bool) (ns : List ℕ) (k : ℕ) (i : List ℕ) (left : List (List ℕ)) → drop k (walk back ns) ≡ i ∷ left → Next back ns k i left
 walk-next back ns k i left e =
     elim (cases_lt k (size_of ns)) [
-      inl h ↦ next_below back ns k i left e h
-    | inr h ↦ absurd (no_more back ns k i left e h)
+      | inl h ↦ next_below back ns k i left e h
+      | inr h ↦ absurd (no_more back ns k i left e h)
     ]
 
 -- where no item is left after k items, these are all
@@ -168,4 +168,4 @@ walk-all back ns k e =
 -- what an iterator of this kind has given and has left, for a loop that reads the items so far
 pub yielded-rest : {S A B : Type 0} (view : A → B) (rest : S → List B) (s : S) (xs : List A) (t : S) → Yields (YieldsFirstBy view rest) s xs t → rest s ≡ map view xs ++ rest t
 yielded-rest view rest s [] t e = ap rest e
-yielded-rest view rest s (x ∷ xs) t h = h.1.0 ∙ ap (λ ys. view x ∷ ys) (yielded-rest view rest h.0 xs t h.1.1)
+yielded-rest view rest s (x ∷ xs) t h = h.1 ∙ ap (λ ys. view x ∷ ys) (yielded-rest view rest h.0 xs t h.2)

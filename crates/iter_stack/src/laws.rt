@@ -12,8 +12,7 @@ pub fn index_laws()
         → slice_index_or (indices_back ns) p d ≡ from_the_end ns (index_at ns p) }
     ensures count { (back : Bool) (ns : List ℕ) → length (walk back ns) ≡ size_of ns }
     ensures lawful { (ns is : List ℕ) → IsIndex ns is → IsIndex ns (from_the_end ns is) }
-{
-}
+{}
 
 /// Laws for a loop over a walk: what is left after k items is the walk without its first k items; the next item
 /// is the item number k, an index of the shape; and where none is left, k is the size.
@@ -22,8 +21,7 @@ pub fn walk_laws()
         → (k < size_of ns) × (i ≡ item back ns k) × IsIndex ns i × (left ≡ drop (k + 1) (walk back ns)) }
     ensures end { (back : Bool) (ns : List ℕ) (k : ℕ) → drop k (walk back ns) ≡ [] → size_of ns ≤ k }
     ensures left { (back : Bool) (ns : List ℕ) (k : ℕ) → length (drop k (walk back ns)) ≡ size_of ns - k }
-{
-}
+{}
 
 /// Worked examples of the two walks.
 pub fn index_examples()
@@ -35,5 +33,4 @@ pub fn index_examples()
     ensures vector_back { indices_back (3 ∷ []) ≡ (2 ∷ []) ∷ (1 ∷ []) ∷ (0 ∷ []) ∷ [] }
     ensures matrix_back { indices_back (2 ∷ 2 ∷ []) ≡ (0 ∷ 1 ∷ []) ∷ (0 ∷ 0 ∷ []) ∷ (1 ∷ 1 ∷ []) ∷ (1 ∷ 0 ∷ []) ∷ [] }
     ensures none_back { indices_back (0 ∷ 2 ∷ []) ≡ [] }
-{
-}
+{}

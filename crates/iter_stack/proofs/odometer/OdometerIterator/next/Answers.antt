@@ -8,7 +8,7 @@ use Rattle.iter_stack.proofs.odometer.OdometerIterator.next.Goals.{then-self-2, 
 pub returns-then-self-clause-steps : goal.returns-then-self-clause-steps
 returns-then-self-clause-steps c =
     let none : c.args.self.now ≡ [] =
-        sym c.self.view_is ∙ rw (c.if-self.true, c.self.invariant.0) (walk-end c.self.inside.back c.self.inside.shape)
+    sym c.self.view_is ∙ rw (c.if-self.true, c.self.invariant.0) (walk-end c.self.inside.back c.self.inside.shape)
     in
     (none, none)
 
@@ -16,8 +16,8 @@ returns-then-self-clause-steps c =
 found : (c : goal.After-self-1) → c.if-self-2.index.items ≡ item c.self.inside.back c.self.inside.shape c.self.inside.place
 found c =
     elim c.if-self-2.branch [
-      then-self-2 w ↦ rw (w.if-self-2.true, w.index-is, w.count_from_the_end.ensures, c.index_of-index.ensures.index) refl
-    | else-self-2 w ↦ rw (w.if-self-2.false, w.index-is, c.index_of-index.ensures.index) refl
+      | then-self-2 w ↦ rw (w.if-self-2.true, w.index-is, w.count_from_the_end.ensures, c.index_of-index.ensures.index) refl
+      | else-self-2 w ↦ rw (w.if-self-2.false, w.index-is, c.index_of-index.ensures.index) refl
     ]
 
 pub returns-clause-steps : goal.returns-clause-steps
@@ -30,6 +30,6 @@ returns-clause-steps c =
 pub returns-clause-goes : goal.returns-clause-goes
 returns-clause-goes c =
     let left : length c.args.self.now ≡ suc (length (drop (c.self.inside.place + 1) (walk c.self.inside.back c.self.inside.shape))) =
-        ap length (returns-clause-steps c)
+    ap length (returns-clause-steps c)
     in
     record { on = λ _. (tt, tt, omega arith); keeps = tt; rests = λ _. tt }
