@@ -65,3 +65,6 @@ pub fn identity(f: Dya) -> Option<Cell>
         Dya::Nand | Dya::Nor => None,
     }
 }
+
+#[cfg(test)]
+mod tests;
