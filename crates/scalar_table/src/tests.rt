@@ -1,5 +1,5 @@
 ghost use Rattle.std.specs.Prelude.{◌≡◌, ◌↔◌, IsTrue};
-ghost use Rattle.apl_base.specs.declared.cells.Kind.TheVariants as kind;
+ghost use Rattle.apl_base.specs.declared.cells.Kind.TheVariants.{Num};
 ghost use Rattle.apl_base.specs.Number.{IsNumber};
 
 use super::*;
@@ -206,7 +206,7 @@ const DYADIC: [(Dya, Cell, Cell, Option<Cell>); 122] = [
 ];
 
 fn number(cell: Cell) -> Elem
-    ensures { (result.kind ≡ kind.Num) × (result.cell ≡ cell) }
+    ensures { (result.kind ≡ Num) × (result.cell ≡ cell) }
 {
     Elem {
         kind: Kind::Num,
