@@ -1,4 +1,6 @@
 pub mod Array
+pub mod Examples
+pub mod Interval
 pub mod Number
 pub mod Scalar
 pub mod Selection

@@ -1,6 +1,6 @@
 -- The selections: each gives the shape of its result and, for each index of the result, the index of the
 -- argument that it reads. Indices count from 0. `ns` are the argument's lengths, `is` an index of the result.
-use Rattle.std.specs.Prelude.{◌≡◌, ℕ, zero, suc, ◌+◌, ◌-◌, ◌*◌, ◌<◌, ◌≤◌, min, max, ℤ, pos, negsuc, ◌+ℤ◌, ◌*ℤ◌, unsigned_abs, ◌==◌, List, [], ◌∷◌, ◌++◌, map, length, take, drop, filter, insert, remove, slice_index, slice_set, Contains, if◌then◌else◌}
+use Rattle.std.specs.Prelude.{ℕ, zero, suc, ◌+◌, ◌-◌, ◌<◌, ◌≤◌, min, max, ℤ, pos, negsuc, ◌+ℤ◌, ◌*ℤ◌, unsigned_abs, ◌==◌, List, [], ◌∷◌, map, length, take, drop, insert, remove, slice_index, slice_set, Contains, if◌then◌else◌}
 use Rattle.std.specs.List.{AllByRecursion}
 
 -- ---- take: the first a elements of an axis where a is 0 or more, else the last |a|

@@ -1,0 +1,4 @@
+pub mod Interval
+pub mod Stores
+pub mod Follows
+pub mod Laws
