@@ -4,10 +4,10 @@
 ghost use Rattle.std.specs.Prelude.{◌≡◌, ◌↔◌, ◌⊎◌, IfSome, IsNone};
 ghost use Rattle.apl_base.specs.Number.{IsNumber, IsCell};
 ghost use Rattle.apl_base.specs.Scalar.{scalar1, scalar2, identity_of};
-ghost use Rattle.apl_base.specs.declared.cells.Kind.TheVariants as kind;
-ghost use Rattle.apl_base.specs.declared.rows.Dya.TheVariants as dya;
+ghost use Rattle.apl_base.specs.declared.cells.Kind.TheVariants.{Num};
 
 mod dyadic;
+mod examples;
 mod monadic;
 mod numbers;
 mod rows;
@@ -16,6 +16,7 @@ use apl_base::{Cell, Dya, Elem, M, Mon};
 pub use dyadic::{
     Add, And, Div, Eq, Ge, Gt, Le, Lt, Max, Min, Mul, Nand, Ne, Nor, Or, Pow, Residue, Sub,
 };
+pub use examples::row_examples;
 pub use monadic::{Abs, Ceil, Fact, Floor, Minus, Not, Plus, Recip, Sign};
 pub use rows::ScalarRow;
 
@@ -32,7 +33,7 @@ macro_rules! by_row {
 pub fn apply1(f: Mon, b: Elem) -> Option<Elem>
     requires { IsCell b.kind b.cell }
     ensures exact { result ≡ scalar1 f b }
-    ensures number { IfSome result (λ r. r.kind ≡ kind.Num) }
+    ensures number { IfSome result (λ r. r.kind ≡ Num) }
     ensures within { IfSome result (λ r. IsNumber r.cell) }
     ensures lawful { IfSome result (λ r. IsCell r.kind r.cell) }
 {
@@ -44,7 +45,7 @@ pub fn apply2(f: Dya, a: Elem, b: Elem) -> Option<Elem>
     requires left { IsCell a.kind a.cell }
     requires right { IsCell b.kind b.cell }
     ensures exact { result ≡ scalar2 f a b }
-    ensures number { IfSome result (λ r. r.kind ≡ kind.Num) }
+    ensures number { IfSome result (λ r. r.kind ≡ Num) }
     ensures within { IfSome result (λ r. IsNumber r.cell) }
     ensures lawful { IfSome result (λ r. IsCell r.kind r.cell) }
 {
@@ -54,7 +55,7 @@ pub fn apply2(f: Dya, a: Elem, b: Elem) -> Option<Elem>
 /// What a reduction by `f` over nothing gives: the cell of a number, or `None` for `⍲` and `⍱`.
 pub fn identity(f: Dya) -> Option<Cell>
     ensures exact { result ≡ identity_of f }
-    ensures missing { IsNone result ↔ ((f ≡ dya.Nand) ⊎ (f ≡ dya.Nor)) }
+    ensures missing { IsNone result ↔ ((f ≡ Dya.Nand) ⊎ (f ≡ Dya.Nor)) }
     ensures within { IfSome result IsNumber }
 {
     match f {
@@ -65,3 +66,6 @@ pub fn identity(f: Dya) -> Option<Cell>
         Dya::Nand | Dya::Nor => None,
     }
 }
+
+#[cfg(test)]
+mod tests;

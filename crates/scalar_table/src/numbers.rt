@@ -2,9 +2,8 @@ ghost use Rattle.std.specs.Prelude.{◌≡◌, ◌<◌, pos, unsigned_abs, ◌+�
 ghost use Rattle.apl_base.specs.Number.{IsNumber};
 ghost use Rattle.apl_base.specs.Scalar.{in_range, residue, power, quotient, factorial_of, truth, truth_value, number, of_number};
 ghost use Rattle.std.specs.Option.{option_map};
-ghost use Rattle.apl_base.specs.declared.rows.Mon.TheVariants as mon;
 
-use apl_base::{Cell, Elem, Kind, M};
+use apl_base::{Cell, Elem, Kind, M, Mon};
 
 /// The cell, where it is a number of the language.
 pub(crate) fn number_of(z: Cell) -> Option<Cell>
@@ -53,8 +52,8 @@ pub(crate) fn quotient_of(a: Cell, b: Cell) -> Option<Cell>
     }
 }
 
-/// What is left of `b` by `a`: from 0 up to the magnitude of `a`, whatever the signs. By 0 it is `b`, where
-/// `b` is not negative.
+/// What is left of `b` by `a`: not negative and below the magnitude of `a`, whatever the signs. By 0 it is
+/// `b`, where `b` is not negative.
 pub(crate) fn residue_of(a: Cell, b: Cell) -> Option<Cell>
     requires left { IsNumber a }
     requires right { IsNumber b }
@@ -69,8 +68,8 @@ pub(crate) fn residue_of(a: Cell, b: Cell) -> Option<Cell>
     }
 }
 
-/// `base` to the power `exponent`, where that is a number. It takes at most 120 products: 2 to the power 120
-/// is past every number.
+/// `base` to the power `exponent`, where that is a number. It takes few steps whatever the exponent: from 120
+/// on, the power of a base of magnitude 2 or more is past every number.
 pub(crate) fn power_of(base: Cell, exponent: Cell) -> Option<Cell>
     ensures { result ≡ power base exponent }
 {
@@ -182,14 +181,14 @@ pub(crate) fn truth_value_of(z: Cell) -> Option<bool>
 
 /// The number itself of 1 and -1.
 pub(crate) fn reciprocal_of(b: Cell) -> Option<Cell>
-    ensures { result ≡ of_number mon.Recip b }
+    ensures { result ≡ of_number Mon.Recip b }
 {
     if b == 1 || b == -1 { Some(b) } else { None }
 }
 
 /// 1 of 0, and 0 of 1.
 pub(crate) fn negation_of(b: Cell) -> Option<Cell>
-    ensures { result ≡ of_number mon.Not b }
+    ensures { result ≡ of_number Mon.Not b }
 {
     match b {
         0 => Some(1),
