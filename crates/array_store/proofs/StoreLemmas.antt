@@ -7,9 +7,9 @@ use Rattle.std.proofs.lemmas.List.Elements.{All-set, All-weaker}
 use Rattle.apl_base.specs.declared.cells.Kind.{Kind}
 use Rattle.apl_base.specs.declared.cells.Interval.{Interval}
 use Rattle.apl_base.specs.Number.{IsCell}
-use Rattle.array_store.specs.Interval.{IsWithin, IsInterval, hull, exact_interval}
+use Rattle.apl_base.specs.Interval.{InInterval, IsInterval, hull, exact_interval}
 use Rattle.array_store.specs.Stores.{OwnerView, StoreView, IsOwner, IsStore, owner_at, owner_of, holders_of, cells_of, cells_in, with_owner, without_owner, new_owner, no_owner}
-use Rattle.array_store.proofs.IntervalLemmas.{All-exact_interval, IsInterval-exact, IsInterval-hull, IsWithin-hull_new, IsWithin-hull_old, IsNumber-from_cell}
+use Rattle.array_store.proofs.IntervalLemmas.{All-exact_interval, IsInterval-exact, IsInterval-hull, InInterval-hull_new, InInterval-hull_old, IsNumber-from_cell}
 
 -- a key with an owner has a slot
 pub owner_within : (s : StoreView) (key : ℕ) (o : OwnerView) → owner_at s key ≡ Some o → key < length s.owners
@@ -93,7 +93,7 @@ pub IsOwner-made : (cells : List ℤ) (kind : Kind) (i : Interval) → i ≡ exa
 IsOwner-made cells kind i exact lawful =
     record {
       lawful = lawful;
-      within = subst (λ (x : Interval). All (IsWithin x) cells) (sym exact) (All-exact_interval cells);
+      within = subst (λ (x : Interval). All (InInterval x) cells) (sym exact) (All-exact_interval cells);
       interval = subst IsInterval (sym exact) (IsInterval-exact kind cells lawful);
       held = omega arith;
     }
@@ -106,10 +106,10 @@ IsOwner-holders o n h owner =
 -- a lawful cell in the place of one, and the hull with it, leave an owner lawful
 pub IsOwner-written : (o : OwnerView) (place : ℕ) (c : ℤ) (i : Interval) → i ≡ hull o.interval c → IsCell o.kind c → IsOwner o → IsOwner (record o { cells = set o.cells place c; interval = i })
 IsOwner-written o place c i widened lawful owner =
-    let old : All (IsWithin (hull o.interval c)) o.cells = All-weaker (IsWithin o.interval) (IsWithin (hull o.interval c)) (λ x h. IsWithin-hull_old o.interval c x h) o.cells owner.within in
+    let old : All (InInterval (hull o.interval c)) o.cells = All-weaker (InInterval o.interval) (InInterval (hull o.interval c)) (λ x h. InInterval-hull_old o.interval c x h) o.cells owner.within in
     record {
       lawful = All-set (IsCell o.kind) o.cells place c lawful owner.lawful;
-      within = subst (λ (x : Interval). All (IsWithin x) (set o.cells place c)) (sym widened) (All-set (IsWithin (hull o.interval c)) o.cells place c (IsWithin-hull_new o.interval c) old);
+      within = subst (λ (x : Interval). All (InInterval x) (set o.cells place c)) (sym widened) (All-set (InInterval (hull o.interval c)) o.cells place c (InInterval-hull_new o.interval c) old);
       interval = subst IsInterval (sym widened) (IsInterval-hull o.interval c owner.interval (IsNumber-from_cell o.kind c lawful));
       held = owner.held;
     }
