@@ -178,8 +178,8 @@ impl Store {
         if self.holders(owner) == 1 {
             self.free(owner);
         } else {
-            let held = &mut self.owners[owner.key];
-            held.holders -= 1;
+            let kept = &mut self.owners[owner.key];
+            kept.holders -= 1;
         }
     }
 
