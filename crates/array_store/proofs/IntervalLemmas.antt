@@ -9,17 +9,18 @@ use Rattle.apl_base.specs.declared.cells.Kind.TheVariants.{Num, Char}
 use Rattle.apl_base.specs.declared.cells.Interval.{Interval}
 use Rattle.apl_base.specs.declared.cells.Interval.TheVariants.{Empty, Span}
 use Rattle.apl_base.specs.Number.{IsNumber, IsCell}
-use Rattle.array_store.specs.Interval.{IsWithin, IsInterval, hull, exact_interval, IsLeastToGreatest}
+use Rattle.apl_base.specs.Interval.{InInterval, IsInterval, hull, exact_interval}
+use Rattle.array_store.specs.Laws.{IsLeastToGreatest}
 
 -- a cell lies in each hull with it
-pub IsWithin-hull_new : (i : Interval) (c : ℤ) → IsWithin (hull i c) c
-IsWithin-hull_new Empty c = (omega (arith, ints), omega (arith, ints))
-IsWithin-hull_new (Span lo hi) c = (omega (arith, ints, clamps), omega (arith, ints, clamps))
+pub InInterval-hull_new : (i : Interval) (c : ℤ) → InInterval (hull i c) c
+InInterval-hull_new Empty c = (omega (arith, ints), omega (arith, ints))
+InInterval-hull_new (Span lo hi) c = (omega (arith, ints, clamps), omega (arith, ints, clamps))
 
 -- and a hull loses no cell
-pub IsWithin-hull_old : (i : Interval) (c x : ℤ) → IsWithin i x → IsWithin (hull i c) x
-IsWithin-hull_old Empty c x h = absurd h
-IsWithin-hull_old (Span lo hi) c x h = (omega (arith, ints, clamps), omega (arith, ints, clamps))
+pub InInterval-hull_old : (i : Interval) (c x : ℤ) → InInterval i x → InInterval (hull i c) x
+InInterval-hull_old Empty c x h = absurd h
+InInterval-hull_old (Span lo hi) c x h = (omega (arith, ints, clamps), omega (arith, ints, clamps))
 
 IsNumber-int_min : (a b : ℤ) → IsNumber a → IsNumber b → IsNumber (int_min a b)
 IsNumber-int_min a b p q = record { least = omega (arith, ints, clamps); most = omega (arith, ints, clamps) }
@@ -28,9 +29,9 @@ IsNumber-int_max : (a b : ℤ) → IsNumber a → IsNumber b → IsNumber (int_m
 IsNumber-int_max a b p q = record { least = omega (arith, ints, clamps); most = omega (arith, ints, clamps) }
 
 pub IsInterval-hull : (i : Interval) (c : ℤ) → IsInterval i → IsNumber c → IsInterval (hull i c)
-IsInterval-hull Empty c h n = (omega (arith, ints), n, n)
+IsInterval-hull Empty c h n = record { least = n; order = omega (arith, ints); most = n }
 IsInterval-hull (Span lo hi) c h n =
-    (omega (arith, ints, clamps), IsNumber-int_min lo c h.1 n, IsNumber-int_max hi c h.2 n)
+    record { least = IsNumber-int_min lo c h.least n; order = omega (arith, ints, clamps); most = IsNumber-int_max hi c h.most n }
 
 -- a character is a number too
 pub IsNumber-from_cell : (k : Kind) (c : ℤ) → IsCell k c → IsNumber c
@@ -41,14 +42,14 @@ IsNumber-from_cell Char (pos c) h =
 IsNumber-from_cell Char (negsuc c) h = absurd h
 
 -- from any interval on: the hull with each cell of a list
-pub All-fold_hull : (i : Interval) (cells : List ℤ) → All (IsWithin (fold hull i cells)) cells
+pub All-fold_hull : (i : Interval) (cells : List ℤ) → All (InInterval (fold hull i cells)) cells
 All-fold_hull i [] = All-nil _
 All-fold_hull i (c ∷ cs) =
-    All-cons (IsWithin (fold hull (hull i c) cs)) c cs (IsWithin-fold_hull (hull i c) cs c (IsWithin-hull_new i c)) (All-fold_hull (hull i c) cs)
+    All-cons (InInterval (fold hull (hull i c) cs)) c cs (InInterval-fold_hull (hull i c) cs c (InInterval-hull_new i c)) (All-fold_hull (hull i c) cs)
   where
-    IsWithin-fold_hull : (i : Interval) (cells : List ℤ) (x : ℤ) → IsWithin i x → IsWithin (fold hull i cells) x
-    IsWithin-fold_hull i [] x h = h
-    IsWithin-fold_hull i (c ∷ cs) x h = IsWithin-fold_hull (hull i c) cs x (IsWithin-hull_old i c x h)
+    InInterval-fold_hull : (i : Interval) (cells : List ℤ) (x : ℤ) → InInterval i x → InInterval (fold hull i cells) x
+    InInterval-fold_hull i [] x h = h
+    InInterval-fold_hull i (c ∷ cs) x h = InInterval-fold_hull (hull i c) cs x (InInterval-hull_old i c x h)
 
 IsInterval-fold_hull : (k : Kind) (i : Interval) (cells : List ℤ) → IsInterval i → All (IsCell k) cells → IsInterval (fold hull i cells)
 IsInterval-fold_hull k i [] h cs = h
@@ -56,7 +57,7 @@ IsInterval-fold_hull k i (c ∷ cs) h all =
     IsInterval-fold_hull k (hull i c) cs (IsInterval-hull i c h (IsNumber-from_cell k c (All-head (IsCell k) c cs all))) (All-tail (IsCell k) c cs all)
 
 -- each cell lies in the exact interval of the cells
-pub All-exact_interval : (cells : List ℤ) → All (IsWithin (exact_interval cells)) cells
+pub All-exact_interval : (cells : List ℤ) → All (InInterval (exact_interval cells)) cells
 All-exact_interval cells = All-fold_hull Empty cells
 
 pub IsInterval-exact : (k : Kind) (cells : List ℤ) → All (IsCell k) cells → IsInterval (exact_interval cells)
@@ -74,7 +75,7 @@ IsLeastToGreatest-exact (c ∷ cs) =
     subst (IsLeastToGreatest (c ∷ cs)) (sym spans) (
       Contains-first_or_rest c cs _ (fold-int_min_reached c cs _ refl),
       Contains-first_or_rest c cs _ (fold-int_max_reached c cs _ refl),
-      subst (λ i. All (IsWithin i) (c ∷ cs)) spans (All-exact_interval (c ∷ cs)),
+      subst (λ i. All (InInterval i) (c ∷ cs)) spans (All-exact_interval (c ∷ cs)),
     )
   where
     Contains-first_or_rest : (c : ℤ) (cs : List ℤ) (x : ℤ) → (x ≡ c) ⊎ Contains cs x → Contains (c ∷ cs) x

@@ -7,9 +7,9 @@ use Rattle.std.proofs.lemmas.List.Elements.{All-set, All-weaker}
 use Rattle.apl_base.specs.declared.cells.Kind.{Kind}
 use Rattle.apl_base.specs.declared.cells.Interval.{Interval}
 use Rattle.apl_base.specs.Number.{IsCell}
-use Rattle.array_store.specs.Interval.{IsWithin, IsInterval, hull, exact_interval}
-use Rattle.array_store.specs.Stores.{OwnerView, StoreView, IsOwner, IsStore, owner_at, owner_of, holders_of, cells_of, cells_in, with_owner, without_owner, new_owner, no_owner}
-use Rattle.array_store.proofs.IntervalLemmas.{All-exact_interval, IsInterval-exact, IsInterval-hull, IsWithin-hull_new, IsWithin-hull_old, IsNumber-from_cell}
+use Rattle.apl_base.specs.Interval.{InInterval, IsInterval, hull, exact_interval}
+use Rattle.array_store.specs.Stores.{OwnerView, StoreView, IsOwner, IsStore, owner_at, owner_of, holders_of, cells_of, cells_in, with_owner, without_owner, with_holders, with_cell, new_owner, no_owner}
+use Rattle.array_store.proofs.IntervalLemmas.{All-exact_interval, IsInterval-exact, IsInterval-hull, InInterval-hull_new, InInterval-hull_old, IsNumber-from_cell}
 
 -- a key with an owner has a slot
 pub owner_within : (s : StoreView) (key : ℕ) (o : OwnerView) → owner_at s key ≡ Some o → key < length s.owners
@@ -93,7 +93,7 @@ pub IsOwner-made : (cells : List ℤ) (kind : Kind) (i : Interval) → i ≡ exa
 IsOwner-made cells kind i exact lawful =
     record {
       lawful = lawful;
-      within = subst (λ (x : Interval). All (IsWithin x) cells) (sym exact) (All-exact_interval cells);
+      within = subst (λ (x : Interval). All (InInterval x) cells) (sym exact) (All-exact_interval cells);
       interval = subst IsInterval (sym exact) (IsInterval-exact kind cells lawful);
       held = omega arith;
     }
@@ -106,10 +106,10 @@ IsOwner-holders o n h owner =
 -- a lawful cell in the place of one, and the hull with it, leave an owner lawful
 pub IsOwner-written : (o : OwnerView) (place : ℕ) (c : ℤ) (i : Interval) → i ≡ hull o.interval c → IsCell o.kind c → IsOwner o → IsOwner (record o { cells = set o.cells place c; interval = i })
 IsOwner-written o place c i widened lawful owner =
-    let old : All (IsWithin (hull o.interval c)) o.cells = All-weaker (IsWithin o.interval) (IsWithin (hull o.interval c)) (λ x h. IsWithin-hull_old o.interval c x h) o.cells owner.within in
+    let old : All (InInterval (hull o.interval c)) o.cells = All-weaker (InInterval o.interval) (InInterval (hull o.interval c)) (λ x h. InInterval-hull_old o.interval c x h) o.cells owner.within in
     record {
       lawful = All-set (IsCell o.kind) o.cells place c lawful owner.lawful;
-      within = subst (λ (x : Interval). All (IsWithin x) (set o.cells place c)) (sym widened) (All-set (IsWithin (hull o.interval c)) o.cells place c (IsWithin-hull_new o.interval c) old);
+      within = subst (λ (x : Interval). All (InInterval x) (set o.cells place c)) (sym widened) (All-set (InInterval (hull o.interval c)) o.cells place c (InInterval-hull_new o.interval c) old);
       interval = subst IsInterval (sym widened) (IsInterval-hull o.interval c owner.interval (IsNumber-from_cell o.kind c lawful));
       held = owner.held;
     }
@@ -130,3 +130,25 @@ owner_along s t key other o same equal found =
 -- and what the words on an owner then say
 pub owner_of-found : (s : StoreView) (key : ℕ) (o : OwnerView) → owner_at s key ≡ Some o → owner_of s key ≡ o
 owner_of-found s key o found = ap (λ (x : Option OwnerView). unwrap_or x no_owner) found
+
+-- ---- what a look-up finds after a change
+
+pub owner_at-with_owner : (s : StoreView) (key : ℕ) (o p : OwnerView) → owner_at s key ≡ Some o → owner_at (with_owner s key p) key ≡ Some p
+owner_at-with_owner s key o p found = get_or-set_same s.owners key (Some p) None (owner_within s key o found)
+
+pub owner_at-with_owner_other : (s : StoreView) (key other : ℕ) (p : OwnerView) → other ≢ key → owner_at (with_owner s key p) other ≡ owner_at s other
+owner_at-with_owner_other s key other p differs = get_or-set_other s.owners key other (Some p) None differs
+
+pub owner_at-without_owner : (s : StoreView) (key : ℕ) (o : OwnerView) → owner_at s key ≡ Some o → owner_at (without_owner s key) key ≡ None
+owner_at-without_owner s key o found = get_or-set_same s.owners key None None (owner_within s key o found)
+
+pub owner_at-without_owner_other : (s : StoreView) (key other : ℕ) → other ≢ key → owner_at (without_owner s key) other ≡ owner_at s other
+owner_at-without_owner_other s key other differs = get_or-set_other s.owners key other None None differs
+
+pub owner_at-with_holders : (s : StoreView) (key n : ℕ) (o : OwnerView) → owner_at s key ≡ Some o → owner_at (with_holders s key n) key ≡ Some (record o { holders = n })
+owner_at-with_holders s key n o found =
+    owner_at-with_owner s key o _ found ∙ ap (λ (p : OwnerView). Some (record p { holders = n })) (owner_of-found s key o found)
+
+pub owner_at-with_cell : (s : StoreView) (key place : ℕ) (c : ℤ) (o : OwnerView) → owner_at s key ≡ Some o → owner_at (with_cell s key place c) key ≡ Some (record o { cells = set o.cells place c; interval = hull o.interval c })
+owner_at-with_cell s key place c o found =
+    owner_at-with_owner s key o _ found ∙ ap (λ (p : OwnerView). Some (record p { cells = set p.cells place c; interval = hull p.interval c })) (owner_of-found s key o found)

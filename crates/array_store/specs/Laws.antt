@@ -1,8 +1,15 @@
 -- The laws of this crate's definitions, each of which a public function's contract states.
-use Rattle.std.specs.Prelude.{◌≡◌, ◌≢◌, ℕ, ◌<◌, ℤ, List, length, Some}
-use Rattle.array_store.specs.Interval.{exact_interval, IsLeastToGreatest}
+use Rattle.std.specs.Prelude.{◌≡◌, ◌≢◌, ℕ, ◌<◌, ℤ, List, [], All, Contains, length, Some}
+use Rattle.apl_base.specs.declared.cells.Interval.{Interval}
+use Rattle.apl_base.specs.declared.cells.Interval.TheVariants.{Empty, Span}
+use Rattle.apl_base.specs.Interval.{InInterval, exact_interval}
 use Rattle.array_store.specs.Stores.{OwnerView, StoreView, owner_at, cells_of, kind_of, interval_of, data_at, with_owner}
 use Rattle.array_store.specs.Follows.{Follows, Holds, both}
+
+-- the interval goes from the least of the cells to the greatest: both ends are among them, and each lies between
+abbrev pub IsLeastToGreatest : List ℤ → Interval → Type 0
+IsLeastToGreatest cells Empty = cells ≡ []
+IsLeastToGreatest cells (Span lo hi) = Contains cells lo × Contains cells hi × All (InInterval (Span lo hi)) cells
 
 -- the exact interval of cells is the one from the least of them to the greatest
 abbrev pub ExactIsLeastToGreatest : Type 0

@@ -1,4 +1,3 @@
-pub mod Interval
 pub mod Stores
 pub mod Follows
 pub mod Laws

@@ -8,7 +8,7 @@ use Rattle.apl_base.specs.declared.cells.Interval.{Interval}
 use Rattle.apl_base.specs.declared.cells.Interval.TheVariants.{Empty}
 use Rattle.apl_base.specs.Number.{IsCell}
 use Rattle.array_store.specs.declared.ids.Counts.{Counts}
-use Rattle.array_store.specs.Interval.{IsWithin, IsInterval, hull, exact_interval}
+use Rattle.apl_base.specs.Interval.{InInterval, IsInterval, hull, exact_interval}
 
 pub record OwnerView : Type 0 where
   pub cells : List ℤ
@@ -66,7 +66,7 @@ data_at s key = option_map owner_data (owner_at s key)
 
 pub record IsOwner (o : OwnerView) : Type 0 where
   pub lawful : All (IsCell o.kind) o.cells
-  pub within : All (IsWithin o.interval) o.cells
+  pub within : All (InInterval o.interval) o.cells
   pub interval : IsInterval o.interval
   pub held : 0 < o.holders
 

@@ -1,5 +1,5 @@
 ghost use Rattle.std.specs.Prelude.{◌≡◌};
-ghost use Rattle.array_store.specs.Interval.{hull, exact_interval};
+ghost use Rattle.apl_base.specs.Interval.{hull, exact_interval};
 
 use apl_base::{Cell, Interval};
 

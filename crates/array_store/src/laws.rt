@@ -1,7 +1,7 @@
 ghost use Rattle.std.specs.Prelude.{◌≡◌, ◌-◌, ◌^◌, pos, negsuc, [], ◌∷◌, Some, None};
 ghost use Rattle.apl_base.specs.declared.cells.Interval.TheVariants as interval;
 ghost use Rattle.apl_base.specs.declared.cells.Kind.TheVariants as kind;
-ghost use Rattle.array_store.specs.Interval.{hull, exact_interval};
+ghost use Rattle.apl_base.specs.Interval.{hull, exact_interval};
 ghost use Rattle.array_store.specs.Stores.{counted, cell_of, empty_store, holders_of, interval_of, new_owner, owner_at, with_cell, with_holders, with_owner, without_owner};
 ghost use Rattle.array_store.specs.Follows.{one_of};
 ghost use Rattle.array_store.specs.Laws.{ExactIsLeastToGreatest, FollowsThen, FollowsBeside, HoldsThen, LeafKept, DataSays, PutIsFound, PutLeavesOthers};

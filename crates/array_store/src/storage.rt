@@ -1,6 +1,6 @@
 ghost use Rattle.std.specs.Prelude.{◌≡◌, ◌≢◌, ℕ, ◌+◌, ◌-◌, ◌<◌, ◌≤◌, ◌↔◌, [], length, All, IfOk, OnOk, OnErr, IsOkUnless, IsErrOf, vec_len, vec_capacity};
 ghost use Rattle.apl_base.specs.Number.{IsCell};
-ghost use Rattle.array_store.specs.Interval.{IsWithin};
+ghost use Rattle.apl_base.specs.Interval.{InInterval};
 ghost use Rattle.array_store.specs.Stores.{IsOwner, IsStore, Makes, owner_of, holders_of, cells_of, kind_of, interval_of, cell_of, counted, empty_store, new_owner, with_holders, with_cell, without_owner};
 ghost use Rattle.array_store.specs.Follows.{Follows, none, one_of};
 
@@ -89,7 +89,7 @@ impl Store {
         ensures within { OnOk result (self.now.live + asked ≤ self.now.limit) }
         ensures other { self.now.live + asked ≤ self.now.limit → IsOkUnless result BeginFault.NoMemory }
         ensures empty { IfOk result (λ cells. cells.items ≡ []) }
-        ensures room { IfOk result (λ cells. vec_capacity cells ≡ asked) }
+        ensures room { IfOk result (λ cells. asked ≤ vec_capacity cells) }
     {
         if asked > self.limit - self.live {
             return Err(BeginFault::WsFull {
@@ -134,7 +134,7 @@ impl Store {
           counts = record self.old.counts { fetched = counted self.old.counts.fetched 1 };
         } }
         ensures lawful { IsCell (kind_of self.old owner) result }
-        ensures within { IsWithin (interval_of self.old owner) result }
+        ensures within { InInterval (interval_of self.old owner) result }
     {
         self.counts.fetched = self.counts.fetched.saturating_add(1);
         let read = &self.owners[owner.key];
@@ -178,8 +178,8 @@ impl Store {
         if self.holders(owner) == 1 {
             self.free(owner);
         } else {
-            let held = &mut self.owners[owner.key];
-            held.holders -= 1;
+            let kept = &mut self.owners[owner.key];
+            kept.holders -= 1;
         }
     }
 

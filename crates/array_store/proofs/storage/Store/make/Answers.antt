@@ -1,5 +1,5 @@
 use Rattle.std.proofs.Common.{length, vec_len, ◌≡◌, ap, sym, ◌∙◌, refl, arith}
-use Rattle.array_store.specs.Interval.{exact_interval}
+use Rattle.apl_base.specs.Interval.{exact_interval}
 use Rattle.array_store.specs.Stores.{StoreView}
 use Rattle.array_store.proofs.StoreLemmas.{IsStore-added, IsOwner-made}
 use Rattle.array_store.proofs.storage.Store.make.Goals as goal

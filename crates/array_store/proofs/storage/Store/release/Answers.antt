@@ -5,7 +5,7 @@ use Rattle.array_store.proofs.storage.Store.release.Goals as goal
 
 pub invariant_of-self : goal.invariant_of-self
 invariant_of-self c =
-    let found = c.index_mut-held.ensures.value ∙ ap Some (sym c.held.view_is) in
+    let found = c.index_mut-kept.ensures.value ∙ ap Some (sym c.kept.view_is) in
     let owner = c.self.invariant.owners _ _ found in
     let now = owner_along _ c.args.self.now c.owner.inside.key c.args.owner _ c.self.view_is c.owner.view_is found in
     let holders = ap (λ (o : OwnerView). o.holders) (owner_of-found c.args.self.now c.args.owner _ now) in
