@@ -139,8 +139,9 @@ pub record Occurrence : Type 0 where
 abbrev pub names_in : ℕ → List Token → List Occurrence
 names_in n [] = []
 names_in n (t ∷ ts) = elim (t.word) [
-    word.Name name ↦ record { name = name; line = n; column = t.from } ∷ names_in n ts
-  | _ ↦ names_in n ts ]
+  | word.Name name ↦ record { name = name; line = n; column = t.from } ∷ names_in n ts
+  | _ ↦ names_in n ts
+]
 
 -- the label of a line of a body: a name directly before :
 abbrev pub label_in : ℕ → List Token → List Occurrence
@@ -193,8 +194,9 @@ pub data IsNameClass (ls : List Line) (r : Refusal) : Type 0 where
 -- how many parentheses and brackets are open after a token
 abbrev pub depth_after : ℕ → Token → ℕ
 depth_after d t = elim (t.word) [
-    word.Glyph c ↦ if is_one_of "([" c then d + 1 else (if is_one_of ")]" c then d - 1 else d)
-  | _ ↦ d ]
+  | word.Glyph c ↦ if is_one_of "([" c then d + 1 else (if is_one_of ")]" c then d - 1 else d)
+  | _ ↦ d
+]
 
 -- the first token at which more than 64 are open
 abbrev pub too_deep : ℕ → List Token → Option Token

@@ -49,17 +49,20 @@ abbrev mutual
   pub parts : List Line → List Part
   parts [] = []
   parts (l ∷ ls) = elim (is_empty l.tokens) [
-      true ↦ parts ls
+    | true ↦ parts ls
     | false ↦ elim (opens l.tokens) [
-        true ↦ let i = inside ls in defined l i.body i.last ∷ i.after
-      | false ↦ alone l ∷ parts ls ] ]
+      | true ↦ let i = inside ls in defined l i.body i.last ∷ i.after
+      | false ↦ alone l ∷ parts ls
+    ]
+  ]
 
   -- the lines after the first one of a definition
   pub inside : List Line → Inside
   inside [] = record { body = []; last = None; after = [] }
   inside (l ∷ ls) = elim (closes l.tokens) [
-      true ↦ record { body = []; last = Some l; after = parts ls }
-    | false ↦ let i = inside ls in record { body = l ∷ i.body; last = i.last; after = i.after } ]
+    | true ↦ record { body = []; last = Some l; after = parts ls }
+    | false ↦ let i = inside ls in record { body = l ∷ i.body; last = i.last; after = i.after }
+  ]
 
 -- how many arguments a header has, and the class that it gives its name
 abbrev pub count : Option (List ℕ) → ℕ

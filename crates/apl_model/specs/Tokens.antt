@@ -35,10 +35,12 @@ abbrev pub quoted : List ℕ → Option Quoted
 quoted [] = None
 quoted (c ∷ []) = if c == code "'" then Some (record { characters = []; covers = 1 }) else None
 quoted (c ∷ d ∷ cs) = elim (c == code "'") [
-    true ↦ elim (d == code "'") [
-      true ↦ with_character c 2 (quoted cs)
-    | false ↦ Some (record { characters = []; covers = 1 }) ]
-  | false ↦ with_character c 1 (quoted (d ∷ cs)) ]
+  | true ↦ elim (d == code "'") [
+    | true ↦ with_character c 2 (quoted cs)
+    | false ↦ Some (record { characters = []; covers = 1 })
+  ]
+  | false ↦ with_character c 1 (quoted (d ∷ cs))
+]
 
 -- a name, as long as possible
 abbrev pub name_at : ℕ → List ℕ → Beginning
@@ -52,8 +54,9 @@ number_at c cs = let n = prefix_len is_number_part cs in
 -- a text in quotes. One that doesn't end takes the rest of the line
 abbrev pub text_at : List ℕ → Beginning
 text_at cs = elim (quoted cs) [
-    None ↦ record { found = fault cause.OpenText; more = length cs }
-  | Some q ↦ record { found = text q.characters; more = q.covers } ]
+  | None ↦ record { found = fault cause.OpenText; more = length cs }
+  | Some q ↦ record { found = text q.characters; more = q.covers }
+]
 
 -- what begins with the character c, before the characters cs
 abbrev pub beginning : ℕ → List ℕ → Beginning
@@ -76,11 +79,13 @@ abbrev pub pieces_after : ℕ → ℕ → List ℕ → List Piece
 pieces_after n k [] = []
 pieces_after (suc n) k (c ∷ cs) = pieces_after n (k + 1) cs
 pieces_after zero k (c ∷ cs) = elim (is_blank c) [
-    true ↦ pieces_after zero (k + 1) cs
+  | true ↦ pieces_after zero (k + 1) cs
   | false ↦ elim (c == code "⍝") [
-      true ↦ []
+    | true ↦ []
     | false ↦ let b = beginning c cs in
-        record { from = k; past = k + 1 + b.more; found = b.found } ∷ pieces_after b.more (k + 1) cs ] ]
+        record { from = k; past = k + 1 + b.more; found = b.found } ∷ pieces_after b.more (k + 1) cs
+  ]
+]
 
 abbrev pub pieces : List ℕ → List Piece
 pieces line = pieces_after 0 1 line
@@ -89,18 +94,20 @@ pieces line = pieces_after 0 1 line
 abbrev pub number_before : ℕ → ℕ → ℤ → List Token → List Token
 number_before from past z [] = record { from = from; past = past; word = word.Numbers (z ∷ []) } ∷ []
 number_before from past z (t ∷ ts) = elim (t.word) [
-    word.Numbers zs ↦ record { from = from; past = t.past; word = word.Numbers (z ∷ zs) } ∷ ts
-  | _ ↦ record { from = from; past = past; word = word.Numbers (z ∷ []) } ∷ t ∷ ts ]
+  | word.Numbers zs ↦ record { from = from; past = t.past; word = word.Numbers (z ∷ zs) } ∷ ts
+  | _ ↦ record { from = from; past = past; word = word.Numbers (z ∷ []) } ∷ t ∷ ts
+]
 
 -- the tokens of pieces. The characters of a text are cells
 abbrev pub tokens_of_pieces : List Piece → List Token
 tokens_of_pieces [] = []
 tokens_of_pieces (p ∷ ps) = let ts = tokens_of_pieces ps in elim (p.found) [
-    number z ↦ number_before p.from p.past z ts
+  | number z ↦ number_before p.from p.past z ts
   | text cs ↦ record { from = p.from; past = p.past; word = word.Chars (characters cs) } ∷ ts
   | name n ↦ record { from = p.from; past = p.past; word = word.Name n } ∷ ts
   | glyph g ↦ record { from = p.from; past = p.past; word = word.Glyph g } ∷ ts
-  | fault c ↦ ts ]
+  | fault c ↦ ts
+]
   where
     characters : List ℕ → List ℤ
     characters [] = []
