@@ -1,1 +1,5 @@
 pub mod Bridge
+pub mod Machine
+pub mod Complete
+pub mod Unique
+pub mod Order

@@ -4,6 +4,7 @@ pub mod Environment
 pub mod Evaluation
 pub mod Grammar
 pub mod Immediate
+pub mod Laws
 pub mod Lift
 pub mod Lines
 pub mod Made

@@ -3,6 +3,7 @@
 #![tactic(auto)]
 
 mod functions;
+mod laws;
 mod outlines;
 mod scripts;
 mod texts;
@@ -10,6 +11,10 @@ mod tokens;
 mod trees;
 
 pub use functions::{Axis, DyaFn, MonFn};
+pub use laws::{
+    one_body_line, one_command, one_expression, one_first_line_refusal, one_first_reading_refusal,
+    one_first_refusal, one_header, one_list_of_tokens, one_script, one_statement,
+};
 pub use outlines::{Outline, OutlineBody, OutlineItem, OutlineLine};
 pub use scripts::{BodyLine, Command, Definition, Header, Script, ScriptItem};
 pub use texts::Text;

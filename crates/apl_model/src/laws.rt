@@ -1,0 +1,52 @@
+//! What holds of the definitions. Each function does nothing: its contract is a law.
+ghost use Rattle.apl_model.specs.Laws.{OneListOfTokens, OneExpression, OneStatement, OneBodyLine, OneCommand, OneHeader, OneScript, OneFirstRefusal, OneFirstReadingRefusal, OneFirstLineRefusal};
+
+/// A line has at most one list of tokens.
+pub fn one_list_of_tokens()
+    ensures { OneListOfTokens }
+{}
+
+/// Two expressions of the language that spell the same tokens are equal.
+pub fn one_expression()
+    ensures { OneExpression }
+{}
+
+/// Two statements that spell the same tokens are equal.
+pub fn one_statement()
+    ensures { OneStatement }
+{}
+
+/// Two lines of a body that spell the same tokens have the same label and statement.
+pub fn one_body_line()
+    ensures { OneBodyLine }
+{}
+
+/// Two commands that spell the same tokens are equal.
+pub fn one_command()
+    ensures { OneCommand }
+{}
+
+/// Two headers that spell the same tokens are equal.
+pub fn one_header()
+    ensures { OneHeader }
+{}
+
+/// The lines of a script have at most one tree.
+pub fn one_script()
+    ensures { OneScript }
+{}
+
+/// A script of bytes has at most one first refusal.
+pub fn one_first_refusal()
+    ensures { OneFirstRefusal }
+{}
+
+/// The bytes and characters of a script have at most one first refusal.
+pub fn one_first_reading_refusal()
+    ensures { OneFirstReadingRefusal }
+{}
+
+/// The definitions, names and statements of a script have at most one first refusal.
+pub fn one_first_line_refusal()
+    ensures { OneFirstLineRefusal }
+{}
