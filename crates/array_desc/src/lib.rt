@@ -1,0 +1,7 @@
+//! Descriptors: how the index of an element leads to a number, without reading an element.
+#![tactic(auto)]
+
+mod desc;
+mod steps;
+
+pub use desc::Desc;
