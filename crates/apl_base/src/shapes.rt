@@ -85,6 +85,34 @@ impl Shape {
     {
         size_within(self.lengths.as_slice())
     }
+
+    /// The place of an index in row-major order, both counted from 0.
+    pub fn place_of(&self, index: &[u64]) -> u64
+        requires { IsIndex self.now index.now }
+        ensures place { result ≡ place_at self.now index.now }
+        ensures below { result < size_of self.now }
+    {
+        row_major_place(self.lengths.as_slice(), index)
+    }
+
+    /// The index at a place of the row-major order. It takes no memory.
+    pub fn index_of(&self, place: u64) -> SmallVec<u64, 8>
+        requires { place < size_of self.now }
+        ensures index { result.items ≡ index_at self.now place }
+        ensures lawful { IsIndex self.now result.items }
+        ensures inverse { place_at self.now result.items ≡ place }
+        ensures inline { result.capacity ≡ 8 }
+    {
+        let mut index = SmallVec::new(*self.lengths.allocator());
+        let mut rest = place;
+        let mut size = self.size();
+        for n in self.lengths.as_slice() {
+            size /= *n;
+            index.push_reserved(rest / size);
+            rest %= size;
+        }
+        index
+    }
 }
 
 // The lengths as a list that takes no memory.
@@ -115,4 +143,19 @@ fn size_within(lengths: &[u64]) -> u64
         size = size.saturating_mul(*n).min(MOST_ELEMENTS + 1);
     }
     size
+}
+
+// The place of an index of these lengths, in row-major order: axis by axis from the last, each with the
+// product of the lengths behind it.
+fn row_major_place(lengths: &[u64], index: &[u64]) -> u64
+    requires shape { IsShape lengths.now }
+    requires index { IsIndex lengths.now index.now }
+    ensures place { result ≡ place_at lengths.now index.now }
+    ensures below { result < size_of lengths.now }
+{
+    let mut place = 0;
+    for (n, i) in lengths.iter().zip(index) {
+        place = place * *n + *i;
+    }
+    place
 }
