@@ -1,7 +1,6 @@
 -- Laws of the integers' product.
-use Rattle.std.proofs.Common.{◌≡◌, ℕ, ◌+◌, ◌*◌, ℤ, pos, ◌+ℤ◌, ◌*ℤ◌, neg_ℤ, ap, arith}
+use Rattle.std.proofs.Common.{◌≡◌, ℕ, ◌*◌, ℤ, ◌+ℤ◌, ◌*ℤ◌, ap, arith}
 use Rattle.std.proofs.lemmas.Int.{ints}
-use Rattle.std.proofs.Math.IntN.{*ℤ_comm}
 use borrow.Author.Differences.{up, down, sum_is_lem, product_is}
 
 pub mul_add : (s x y : ℤ) → s *ℤ (x +ℤ y) ≡ (s *ℤ x) +ℤ (s *ℤ y)

@@ -1,5 +1,5 @@
 -- Indices of a shape: the first one, and how many there are.
-use Rattle.std.proofs.Common.{◌≡◌, ℕ, zero, suc, ◌+◌, ◌*◌, ◌<◌, ◌≤◌, List, [], ◌∷◌, length, refl, ap, arith}
+use Rattle.std.proofs.Common.{◌≡◌, ℕ, zero, suc, ◌*◌, ◌<◌, List, [], ◌∷◌, length, refl, ap, arith}
 use Rattle.apl_base.specs.Array.{IsIndex, size_of}
 use Rattle.apl_base.specs.Selection.{only_index}
 
@@ -24,7 +24,7 @@ size_with_index (suc n ∷ ns) (i ∷ is) h = omega (arith, size_with_index ns i
 size_with_index [] (i ∷ is) h = absurd h
 size_with_index (n ∷ ns) [] h = absurd h
 
-positive : (n m : ℕ) → 0 < suc n * m → 0 < m
+pub positive : (n m : ℕ) → 0 < suc n * m → 0 < m
 positive n zero h = absurd (omega (arith, h))
 positive n (suc m) h = omega arith
 

@@ -1,7 +1,9 @@
 pub mod Algebra
+pub mod Transposition
+pub mod Ends
 pub mod Indices
 pub mod Kept
 pub mod Places
-pub mod Selections
+pub mod Maps
 pub mod Sums
 pub mod Walks

@@ -1,14 +1,13 @@
 -- Row-major order: the strides, and the place that they give.
-use Rattle.std.proofs.Common.{◌≡◌, ℕ, suc, ◌+◌, ◌*◌, ◌^◌, ◌<◌, ◌≤◌, ℤ, pos, ◌+ℤ◌, ◌*ℤ◌, List, [], ◌∷◌, length, map, refl, ap, sym, subst, ◌∙◌, arith}
+use Rattle.std.proofs.Common.{◌≡◌, ℕ, suc, ◌<◌, ℤ, pos, ◌+ℤ◌, List, [], ◌∷◌, length, map, refl, ap, sym, subst, ◌∙◌, arith}
 use Rattle.std.specs.Int.{int_wrap}
 use Rattle.std.proofs.lemmas.Int.{ints}
 use Rattle.std.proofs.lemmas.Nat.{mul-add-lt}
 use mir.Syntax.{w128}
 use Rattle.apl_base.specs.Array.{IsShape, IsIndex, size_of, place_at}
 use Rattle.apl_base.specs.Number.{IsNumber}
-use Rattle.array_desc.specs.Desc.{dot}
-use Rattle.array_desc.specs.Steps.{row_strides}
-use Rattle.array_desc.proofs.Indices.{length_of_index}
+use Rattle.array_desc.specs.Desc.{DescView, dot, number}
+use Rattle.array_desc.specs.Steps.{IsSound, row_strides}
 use Rattle.array_desc.proofs.Sums.{Numbers, near-wraps, near-dot}
 
 length-row_strides : (ns : List ℕ) → length (row_strides ns) ≡ length ns
@@ -53,3 +52,13 @@ places_are ns s i q =
 
 pub places_fit : (ns : List ℕ) → IsShape ns → (i : List ℕ) → IsIndex ns i → IsNumber (pos 0 +ℤ dot (map (int_wrap w128) (row_strides ns)) i)
 places_fit ns s i q = subst IsNumber (sym (places_are ns s i q)) (small_place ns i s q)
+
+-- row-major strides with these lengths make a descriptor
+pub row_sound : (ns lengths : List ℕ) (ss : List ℤ) → IsShape ns → ss ≡ map (int_wrap w128) (row_strides ns) → lengths ≡ ns → IsSound (pos 0) ss lengths
+row_sound ns lengths ss s e f = rw (e, f) (record { shape = s; axes = length-wrapped ns; numbers = places_fit ns s })
+
+-- its numbers are the places
+pub row_places : (ns lengths : List ℕ) (ss : List ℤ) → IsShape ns → ss ≡ map (int_wrap w128) (row_strides ns) → lengths ≡ ns → (d : DescView) → ((i : List ℕ) → IsIndex lengths i → number d i ≡ pos 0 +ℤ dot ss i) → (i : List ℕ) → IsIndex ns i → number d i ≡ pos (place_at ns i)
+row_places ns lengths ss s e f d h i q =
+    let Q : List ℕ → Type 0 = λ l. IsIndex l i in
+    h i (subst Q (sym f) q) ∙ ap (λ x. pos 0 +ℤ dot x i) e ∙ places_are ns s i q

@@ -1,14 +1,16 @@
 -- Sums of stride times index, and what is left of them in 128 bits.
-use Rattle.std.proofs.Common.{◌≡◌, ℕ, zero, suc, ◌+◌, ◌*◌, ◌^◌, ◌<◌, ◌≤◌, ℤ, pos, ◌+ℤ◌, ◌*ℤ◌, neg_ℤ, ◌≤ℤ◌, List, [], ◌∷◌, length, map, refl, ap, sym, subst, ◌∙◌, arith, ◌⊎◌, inl, inr}
+use Rattle.std.proofs.Common.{◌≡◌, ℕ, zero, suc, ◌<◌, ℤ, pos, ◌+ℤ◌, ◌*ℤ◌, List, [], ◌∷◌, length, map, refl, ap, sym, subst, ◌∙◌, arith, ◌⊎◌, inl, inr}
+use Rattle.std.specs.Prelude.{slice_set}
 use Rattle.std.specs.Int.{int_wrap}
 use Rattle.std.specs.Int.RustNames.{FitsSigned}
 use Rattle.std.proofs.lemmas.Int.{ints, int_wrap_fits}
-use Rattle.std.proofs.Math.IntN.{*ℤ-one, *ℤ-zero}
+use Rattle.std.proofs.Math.IntN.{*ℤ-zero}
 use mir.Syntax.{w128}
 use Rattle.apl_base.specs.Number.{IsNumber}
-use Rattle.apl_base.specs.Array.{IsIndex}
+use Rattle.apl_base.specs.Array.{IsShape, IsIndex}
 use Rattle.apl_base.specs.Selection.{only_index}
 use Rattle.array_desc.specs.Desc.{DescView, IsDesc, Selects, dot, number}
+use Rattle.array_desc.specs.Steps.{Makes}
 use Rattle.array_desc.proofs.Indices.{first_index}
 
 pub dot-zeros : (ss : List ℤ) (ns : List ℕ) → dot ss (only_index ns) ≡ pos 0
@@ -38,6 +40,11 @@ pub near-wraps : (ss : List ℤ) → Near ss (map (int_wrap w128) ss)
 near-wraps [] = tt
 near-wraps (s ∷ ss) = (inr refl, near-wraps ss)
 
+pub near-set : (ss : List ℤ) (k : ℕ) (x : ℤ) → Near (slice_set ss k x) (slice_set ss k (int_wrap w128 x))
+near-set [] k x = tt
+near-set (s ∷ ss) zero x = (inr refl, near-same ss)
+near-set (s ∷ ss) (suc k) x = (inl refl, near-set ss k x)
+
 -- a number is kept in 128 bits, and so is the difference of two
 pub number_fits : (b : ℤ) → IsNumber b → int_wrap w128 b ≡ b
 number_fits b h = let f : FitsSigned w128 b = omega (arith, ints, h.least, h.most) in int_wrap_fits w128 b f
@@ -57,6 +64,9 @@ at_zeros b ss ns = omega (arith, ints, dot-zeros ss ns)
 
 at_unit : (b s : ℤ) (ss : List ℤ) (ns : List ℕ) → b +ℤ ((s *ℤ pos 1) +ℤ dot ss (only_index ns)) ≡ b +ℤ s
 at_unit b s ss ns = omega (arith, ints, dot-zeros ss ns)
+
+pub one_axis : (b s : ℤ) (j : ℕ) → b +ℤ ((s *ℤ pos j) +ℤ pos 0) ≡ b +ℤ (s *ℤ pos j)
+one_axis b s j = omega (arith, ints)
 
 behind : (b s z : ℤ) → b +ℤ ((s *ℤ pos 0) +ℤ z) ≡ b +ℤ z
 behind b s z = omega (arith, ints)
@@ -116,10 +126,36 @@ meets-near b b' ss ss' ns old read d m p k = record {
       rw (f, e) (m.same i q);
 }
 
--- a descriptor with these numbers selects from the old one
-pub meets-selects : (b : ℤ) (ss : List ℤ) (ns : List ℕ) (old new : DescView) (read : List ℕ → List ℕ) → Meets b ss ns old read → new.shape ≡ ns → ((i : List ℕ) → IsIndex ns i → number new i ≡ b +ℤ dot ss i) → Selects old new ns read
-meets-selects b ss ns old new read m e n = record {
-  shape = e;
-  index = m.index;
-  number = λ i q. n i q ∙ m.same i q;
-}
+-- lengths, base and strides that meet a selection make its descriptor
+pub meets-makes : (b : ℤ) (ss : List ℤ) (ns : List ℕ) (old : DescView) (read : List ℕ → List ℕ) (lengths : List ℕ) → IsDesc old → IsShape lengths → ns ≡ lengths → Meets b ss ns old read → Makes b ss ns old lengths read
+meets-makes b ss ns old read lengths d s e m =
+    let P : List ℕ → Type 0 = IsShape in
+    let Q : List ℕ → List ℕ → Type 0 = λ i l. IsIndex l i in
+    let n = meets-numbers b ss ns old read d m in
+    record {
+      sound = record { shape = subst P (sym e) s; axes = m.axes; numbers = n.each };
+      shape = e;
+      index = λ i q. m.index i (subst (Q i) (sym e) q);
+      same = λ i q. m.same i (subst (Q i) (sym e) q);
+    }
+
+-- the descriptor of such parts selects from the old one
+pub makes-selects : (b : ℤ) (ss : List ℤ) (ns : List ℕ) (old new : DescView) (lengths : List ℕ) (read : List ℕ → List ℕ) → Makes b ss ns old lengths read → new.shape ≡ ns → ((i : List ℕ) → IsIndex ns i → number new i ≡ b +ℤ dot ss i) → Selects old new lengths read
+makes-selects b ss ns old new lengths read m e n =
+    let Q : List ℕ → List ℕ → Type 0 = λ i l. IsIndex l i in
+    record {
+      shape = e ∙ m.shape;
+      index = m.index;
+      number = λ i q. n i (subst (Q i) (sym m.shape) q) ∙ m.same i q;
+    }
+
+-- where the index read is the same, so is the selection
+pub selects-read : (old new : DescView) (lengths wanted : List ℕ) (read other : List ℕ → List ℕ) → lengths ≡ wanted → ((i : List ℕ) → IsIndex wanted i → read i ≡ other i) → Selects old new lengths read → Selects old new wanted other
+selects-read old new lengths wanted read other e f s =
+    let Q : List ℕ → List ℕ → Type 0 = λ i l. IsIndex l i in
+    let R : List ℕ → Type 0 = IsIndex old.shape in
+    record {
+      shape = s.shape ∙ e;
+      index = λ i q. subst R (f i q) (s.index i (subst (Q i) (sym e) q));
+      number = λ i q. s.number i (subst (Q i) (sym e) q) ∙ ap (number old) (f i q);
+    }

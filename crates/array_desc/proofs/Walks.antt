@@ -1,5 +1,5 @@
 -- One turn of each loop over the axes.
-use Rattle.std.proofs.Common.{◌≡◌, ℕ, zero, suc, ◌+◌, ◌-◌, ◌*◌, ◌^◌, ◌<◌, ◌≤◌, ℤ, pos, ◌+ℤ◌, ◌*ℤ◌, List, [], ◌∷◌, ◌++◌, length, map, get_or, take, drop, drop-cons, append_assoc, add-one, refl, ap, sym, ◌∙◌, arith}
+use Rattle.std.proofs.Common.{◌≡◌, ℕ, zero, suc, ◌+◌, ◌-◌, ◌^◌, ◌<◌, ◌≤◌, ℤ, pos, ◌+ℤ◌, ◌*ℤ◌, List, [], ◌∷◌, ◌++◌, length, map, get_or, take, drop, drop-cons, append_assoc, add-one, refl, ap, sym, ◌∙◌, arith}
 use Rattle.std.specs.Int.{int_wrap}
 use Rattle.std.proofs.lemmas.Int.{ints, int_wrap-add_left, int_wrap-add_right, int_wrap-mul_left}
 use Rattle.std.specs.Int.RustNames.{FitsSigned}
@@ -67,3 +67,8 @@ row_turn ns k before after all x p a b h =
 -- the end of a slice, from k on
 pub rest_is : (ns : List ℕ) (k : ℕ) → take (length ns - k) (drop k ns) ≡ drop k ns
 rest_is ns k = take_all (length ns - k) (drop k ns) (omega (arith, length-drop k ns))
+
+-- after the last axis
+pub paired_all : {A B C : Type 0} (f : A → B → C) (xs : List A) (ys : List B) (k : ℕ) (out : List C) → length xs ≤ k → length ys ≤ k → out ≡ paired f (take k xs) (take k ys) → out ≡ paired f xs ys
+paired_all f xs ys k out p q e =
+    e ∙ ap (λ v. paired f v (take k ys)) (take_all k xs p) ∙ ap (paired f xs) (take_all k ys q)

@@ -1,7 +1,22 @@
 -- The lists that the calls build, axis by axis.
-use Rattle.std.specs.Prelude.{◌≡◌, ℕ, zero, suc, ◌+◌, ◌-◌, ◌*◌, ◌≤◌, min, ℤ, pos, negsuc, ◌+ℤ◌, ◌*ℤ◌, unsigned_abs, int_lt, nat_le, ◌==◌, ◌||◌, Bool, List, [], ◌∷◌, length, map, if◌then◌else◌}
-use Rattle.apl_base.specs.Array.{size_of}
-use Rattle.apl_base.specs.Selection.{taken, dropped}
+use Rattle.std.specs.Prelude.{◌≡◌, ℕ, ◌+◌, ◌-◌, ◌≤◌, min, ℤ, pos, ◌+ℤ◌, unsigned_abs, int_lt, nat_le, ◌==◌, ◌||◌, Bool, Option, Some, None, List, [], ◌∷◌, length, if◌then◌else◌}
+use Rattle.apl_base.specs.Number.{IsNumber}
+use Rattle.apl_base.specs.Array.{IsShape, IsIndex, size_of}
+use Rattle.array_desc.specs.Desc.{DescView, dot, number}
+use Rattle.apl_base.specs.Selection.{taken, dropped, least}
+
+-- a base, strides and lengths that make a descriptor
+pub record IsSound (b : ℤ) (ss : List ℤ) (ns : List ℕ) : Type 0 where
+  pub shape : IsShape ns
+  pub axes : length ss ≡ length ns
+  pub numbers : (i : List ℕ) → IsIndex ns i → IsNumber (b +ℤ dot ss i)
+
+-- they give at each index the number that the old descriptor has at the index read
+pub record Makes (b : ℤ) (ss : List ℤ) (ns : List ℕ) (old : DescView) (lengths : List ℕ) (read : List ℕ → List ℕ) : Type 0 where
+  pub sound : IsSound b ss ns
+  pub shape : ns ≡ lengths
+  pub index : (i : List ℕ) → IsIndex lengths i → IsIndex old.shape (read i)
+  pub same : (i : List ℕ) → IsIndex lengths i → b +ℤ dot ss i ≡ number old (read i)
 
 -- f of the elements of two lists, place by place
 abbrev pub paired : {A B C : Type 0} → (A → B → C) → List A → List B → List C
@@ -31,3 +46,20 @@ end_index upper s n = if upper then (if int_lt (pos 0) s then n - 1 else 0) else
 abbrev pub stride_at : ℕ → List ℕ → List ℤ → ℤ
 stride_at r (a ∷ axes) (s ∷ ss) = if a == r then s +ℤ stride_at r axes ss else stride_at r axes ss
 stride_at r axes ss = pos 0
+
+-- where the part of an axis that take or skip leaves begins, and how long it is
+abbrev pub window_start : Bool → ℕ → ℤ → ℕ
+window_start taking n a = if taking then taken n a 0 else dropped n a 0
+
+abbrev pub window_length : Bool → ℕ → ℤ → ℕ
+window_length taking n a = if taking then unsigned_abs a else n - unsigned_abs a
+
+-- the lesser of the least number so far, if there is one, and another
+abbrev pub lesser : Option ℕ → ℕ → ℕ
+lesser None n = n
+lesser (Some m) n = min m n
+
+-- the least of the number so far, if there is one, and those of a list
+abbrev pub least_with : Option ℕ → List ℕ → ℕ
+least_with None ns = least ns
+least_with (Some m) ns = least (m ∷ ns)

@@ -1,10 +1,13 @@
 ghost use Rattle.std.specs.Prelude.{◌≡◌, ℕ, ◌+◌, ◌^◌, ◌<◌, ◌≤◌, pos, ◌+ℤ◌, ◌*ℤ◌, List, [], ◌∷◌, ◌++◌, length, slice_index};
 ghost use Rattle.apl_base.specs.Array.{IsShape, IsIndex, size_of, place_at};
 ghost use Rattle.apl_base.specs.Number.{IsNumber};
-ghost use Rattle.array_desc.specs.Desc.{IsDesc, dot, number as number_of};
+ghost use Rattle.array_desc.specs.Desc.{IsDesc, IsRangeOf, number as number_of};
+ghost use Rattle.array_desc.specs.Steps.{paired, end_index};
 
-use crate::steps::{dot_from, kept_base, kept_strides, row_strides_of};
-use apl_base::{Cell, Shape};
+use crate::lists::held_inline;
+use crate::parts::Parts;
+use crate::steps::{dot_from, end_of_axes, row_strides_of};
+use apl_base::{Cell, Interval, Shape};
 use smallvec::SmallVec;
 use std::alloc::Global;
 use std::marker::Model;
@@ -39,8 +42,12 @@ impl Desc {
         ensures places { (i : List ℕ) → IsIndex shape.now i → number_of result i ≡ pos (place_at shape.now i) }
         ensures lawful { IsDesc result }
     {
-        let strides = row_strides_of(alloc, shape.lengths());
-        settled(alloc, 0, strides.as_slice(), shape.copy())
+        Parts {
+            base: 0,
+            strides: row_strides_of(alloc, shape.lengths()),
+            lengths: held_inline(alloc, shape.lengths()),
+        }
+        .settled()
     }
 
     /// The vector of the `n` numbers from `from` on that lie `step` apart. It takes no memory.
@@ -51,7 +58,12 @@ impl Desc {
         ensures numbers { (j : ℕ) → j < n → number_of result (j ∷ []) ≡ from +ℤ (step *ℤ pos j) }
         ensures lawful { IsDesc result }
     {
-        settled(alloc, from, &[step], shape_of(alloc, &[n]))
+        Parts {
+            base: from,
+            strides: held_inline(alloc, &[step]),
+            lengths: held_inline(alloc, &[n]),
+        }
+        .settled()
     }
 
     /// The scalar of one number. It takes no memory.
@@ -61,7 +73,12 @@ impl Desc {
         ensures number { number_of result [] ≡ number }
         ensures lawful { IsDesc result }
     {
-        settled(alloc, number, &[], shape_of(alloc, &[]))
+        Parts {
+            base: number,
+            strides: SmallVec::new(alloc),
+            lengths: SmallVec::new(alloc),
+        }
+        .settled()
     }
 
     /// The same descriptor again. It takes no memory.
@@ -94,92 +111,26 @@ impl Desc {
     {
         dot_from(self.base, self.strides.as_slice(), index)
     }
-}
 
-// The descriptor of these numbers, with 0 where no index leads.
-fn settled(alloc: Global, base: Cell, strides: &[Cell], shape: Shape) -> Desc
-    requires axes { length strides.now ≡ length shape }
-    requires lengths { IsShape shape }
-    requires numbers { (i : List ℕ) → IsIndex shape i → IsNumber (base +ℤ dot strides.now i) }
-    ensures shape { result.shape ≡ shape }
-    ensures numbers { (i : List ℕ) → IsIndex shape i → number_of result i ≡ base +ℤ dot strides.now i }
-    ensures lawful { IsDesc result }
-{
-    let empty = shape.size() == 0;
-    let base = kept_base(empty, base);
-    let strides = kept_strides(alloc, empty, strides, shape.lengths());
-    Desc {
-        base,
-        strides,
-        shape,
+    /// The least and the greatest of the numbers: `Empty` exactly where there is none.
+    pub fn least_and_greatest(&self) -> Interval
+        ensures range { IsRangeOf self.now result }
+        ensures lawful { IsDesc self.now }
+    {
+        if self.size() == 0 {
+            return Interval::Empty;
+        }
+        Interval::Span {
+            lo: self.number_at(self.end(false).as_slice()),
+            hi: self.number_at(self.end(true).as_slice()),
+        }
+    }
+
+    // The index of the greatest number, or of the least one.
+    fn end(&self, upper: bool) -> SmallVec<u64, 8>
+        ensures { result.items ≡ paired (end_index upper) self.now.strides self.now.shape }
+    {
+        let alloc = *self.strides.allocator();
+        end_of_axes(alloc, upper, self.strides.as_slice(), self.shape.lengths())
     }
 }
-
-// The shape of lengths that make one.
-fn shape_of(alloc: Global, lengths: &[u64]) -> Shape
-    requires { IsShape lengths.now }
-    ensures { result ≡ lengths.now }
-{
-    match Shape::of(alloc, lengths) {
-        Ok(shape) => shape,
-        Err(_) => unreachable!(),
-    }
-}
-
-// The strides as a list that takes no memory.
-fn held_inline(alloc: Global, strides: &[Cell]) -> SmallVec<Cell, 8>
-    requires { length strides.now ≤ 8 }
-    ensures items { result.items ≡ strides.now }
-    ensures capacity { result.capacity ≡ 8 }
-{
-    match SmallVec::from_slice(alloc, strides) {
-        Ok(held) => held,
-        Err(_) => unreachable!(),
-    }
-}
-
-// The contracts of the other calls (bodies to come); each changes the descriptor in place and takes no memory:
-//
-//  pub fn take(&mut self, counts: &[i64])
-//      requires { CountsFit self.old.shape counts.now }
-//      ensures selects { Selects self.old self.new (take_shape counts.now) (take_index self.old.shape counts.now) }
-//      ensures lawful { IsDesc self.new }
-//  pub fn skip(&mut self, counts: &[i64])
-//      requires { CountsFit self.old.shape counts.now }
-//      ensures selects { Selects self.old self.new (drop_shape self.old.shape counts.now) (drop_index self.old.shape counts.now) }
-//      ensures lawful { IsDesc self.new }
-//  pub fn reverse(&mut self, axis: usize)
-//      requires { axis < length self.old.shape }
-//      ensures selects { Selects self.old self.new self.old.shape (reverse_index self.old.shape axis) }
-//      ensures lawful { IsDesc self.new }
-//  pub fn transpose(&mut self, axes: &[usize])
-//      requires count { length axes.now ≡ length self.old.shape }
-//      requires axes { AreAxes (axes_rank axes.now) axes.now }
-//      ensures selects { Selects self.old self.new (transpose_shape axes.now self.old.shape) (transpose_index axes.now) }
-//      ensures lawful { IsDesc self.new }
-//  pub fn at(&mut self, axis: usize, i: u64)
-//      requires axis { axis < length self.old.shape }
-//      requires place { i < slice_index self.old.shape axis }
-//      ensures selects { Selects self.old self.new (at_shape axis self.old.shape) (at_index axis i) }
-//      ensures lawful { IsDesc self.new }
-//  pub fn progression(&mut self, axis: usize, from: u64, step: i64, n: u64)
-//      requires axis { axis < length self.old.shape }
-//      requires places { RunFits (slice_index self.old.shape axis) from step n }
-//      requires lengths { IsShape (run_shape axis n self.old.shape) }
-//      ensures selects { Selects self.old self.new (run_shape axis n self.old.shape) (run_index axis from step) }
-//      ensures lawful { IsDesc self.new }
-//  pub fn extend(&mut self, to: &Shape)
-//      requires { size_of self.old.shape ≡ 1 }
-//      ensures selects { Selects self.old self.new to.now (λ i. only_index self.old.shape) }
-//      ensures lawful { IsDesc self.new }
-//  pub fn outer_left(&mut self, right: &Shape)
-//      requires { IsShape (self.old.shape ++ right.now) }
-//      ensures selects { Selects self.old self.new (self.old.shape ++ right.now) (outer_left_index self.old.shape) }
-//      ensures lawful { IsDesc self.new }
-//  pub fn outer_right(&mut self, left: &Shape)
-//      requires { IsShape (left.now ++ self.old.shape) }
-//      ensures selects { Selects self.old self.new (left.now ++ self.old.shape) (outer_right_index left.now) }
-//      ensures lawful { IsDesc self.new }
-//  pub fn least_and_greatest(&self) -> Interval
-//      ensures range { IsRangeOf self.now result }
-//      ensures lawful { IsDesc self.now }

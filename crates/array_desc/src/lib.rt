@@ -2,6 +2,10 @@
 #![tactic(auto)]
 
 mod desc;
+mod diagonals;
+mod lists;
+mod parts;
+mod selections;
 mod steps;
 
 pub use desc::Desc;

@@ -1,9 +1,10 @@
-ghost use Rattle.std.specs.Prelude.{◌≡◌, ◌≤◌, pos, ◌+ℤ◌, ◌*ℤ◌, length, map, if◌then◌else◌};
+ghost use Rattle.std.specs.Prelude.{◌≡◌, ◌≤◌, unsigned_abs, pos, ◌+ℤ◌, ◌*ℤ◌, length, map, if◌then◌else◌};
 ghost use Rattle.std.specs.Int.{int_wrap};
 ghost use mir.Syntax.{w128};
 ghost use Rattle.apl_base.specs.Array.{size_of};
+ghost use Rattle.apl_base.specs.Selection.{CountsFit};
 ghost use Rattle.array_desc.specs.Desc.{dot};
-ghost use Rattle.array_desc.specs.Steps.{paired, stride_kept, row_strides};
+ghost use Rattle.array_desc.specs.Steps.{paired, stride_kept, row_strides, window_start, window_length, end_index};
 
 use apl_base::Cell;
 use smallvec::SmallVec;
@@ -90,4 +91,94 @@ fn size_behind(lengths: &[u64]) -> Cell
         size = wrapped_product(size, Cell::from(*n));
     }
     size
+}
+
+/// Where on each axis the part begins that a take or a drop of these counts leaves.
+pub fn window_starts(
+    alloc: Global,
+    taking: bool,
+    lengths: &[u64],
+    counts: &[i64],
+) -> SmallVec<u64, 8>
+    requires fit { CountsFit lengths.now counts.now }
+    requires few { length lengths.now ≤ 8 }
+    ensures { result.items ≡ paired (window_start taking) lengths.now counts.now }
+{
+    let mut starts = SmallVec::new(alloc);
+    for (axis, n) in lengths.iter().enumerate() {
+        starts.push_reserved(start_of(taking, *n, counts[axis]));
+    }
+    starts
+}
+
+// Where the part begins that is left of an axis of n elements.
+fn start_of(taking: bool, n: u64, count: i64) -> u64
+    requires { unsigned_abs count ≤ n }
+    ensures { result ≡ window_start taking n count }
+{
+    if taking == (count < 0) {
+        if taking {
+            n - count.unsigned_abs()
+        } else {
+            count.unsigned_abs()
+        }
+    } else {
+        0
+    }
+}
+
+/// How long each axis is after a take or a drop of these counts.
+pub fn window_lengths(
+    alloc: Global,
+    taking: bool,
+    lengths: &[u64],
+    counts: &[i64],
+) -> SmallVec<u64, 8>
+    requires fit { CountsFit lengths.now counts.now }
+    requires few { length lengths.now ≤ 8 }
+    ensures { result.items ≡ paired (window_length taking) lengths.now counts.now }
+{
+    let mut left = SmallVec::new(alloc);
+    for (axis, n) in lengths.iter().enumerate() {
+        left.push_reserved(length_of(taking, *n, counts[axis]));
+    }
+    left
+}
+
+// How long an axis of n elements is afterwards.
+fn length_of(taking: bool, n: u64, count: i64) -> u64
+    requires { unsigned_abs count ≤ n }
+    ensures { result ≡ window_length taking n count }
+{
+    if taking {
+        count.unsigned_abs()
+    } else {
+        n - count.unsigned_abs()
+    }
+}
+
+/// On each axis the end to which the numbers rise, or the one to which they fall.
+pub fn end_of_axes(
+    alloc: Global,
+    upper: bool,
+    strides: &[Cell],
+    lengths: &[u64],
+) -> SmallVec<u64, 8>
+    requires axes { length strides.now ≡ length lengths.now }
+    requires few { length lengths.now ≤ 8 }
+    ensures { result.items ≡ paired (end_index upper) strides.now lengths.now }
+{
+    let mut index = SmallVec::new(alloc);
+    for (axis, stride) in strides.iter().enumerate() {
+        index.push_reserved(end_of(upper, *stride, lengths[axis]));
+    }
+    index
+}
+
+// The end of an axis of n elements to which the numbers rise, or the one to which they fall.
+fn end_of(upper: bool, stride: Cell, n: u64) -> u64
+    ensures { result ≡ end_index upper stride n }
+{
+    let at_last = if upper { stride > 0 } else { stride < 0 };
+    if at_last { n.saturating_sub(1) } else { 0 }
 }

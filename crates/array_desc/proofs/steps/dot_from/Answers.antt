@@ -1,4 +1,4 @@
-use Rattle.std.proofs.Common.{pos, get_or, refl, arith, rules}
+use Rattle.std.proofs.Common.{pos, get_or, arith, rules}
 use Rattle.std.proofs.lemmas.Int.{to_z-of_z}
 use mir.Val.{SFits}
 use mir.Syntax.{w128}

@@ -1,7 +1,7 @@
-use Rattle.std.proofs.Common.{◌≡◌, length, sym, subst, ◌∙◌, ap, refl, List, ℤ, ◌+ℤ◌, rules}
+use Rattle.std.proofs.Common.{length, sym, subst, ◌∙◌, ap, ◌+ℤ◌, rules}
 use Rattle.std.specs.Int.{int_wrap}
 use Rattle.std.proofs.lemmas.Int.{to_z-of_z}
-use mir.Val.{SFits, to_z, of_z}
+use mir.Val.{SFits}
 use mir.Syntax.{w128}
 use Rattle.apl_base.specs.Number.{IsNumber}
 use Rattle.array_desc.specs.Desc.{DescView, IsDesc, dot, number}
