@@ -1,0 +1,11 @@
+//! Descriptors: how the index of an element leads to a number, without reading an element.
+#![tactic(auto)]
+
+mod desc;
+mod diagonals;
+mod lists;
+mod parts;
+mod selections;
+mod steps;
+
+pub use desc::Desc;
