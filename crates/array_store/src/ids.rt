@@ -1,5 +1,7 @@
 ghost use Rattle.std.specs.Prelude.{◌≡◌};
+ghost use Rattle.array_store.specs.declared.ids.BeginFault.TheVariants as begin_fault;
 
+use apl_base::NoMemory;
 use std::marker::Model;
 
 /// The number of an owner, which contracts see as its key.
@@ -44,4 +46,12 @@ pub enum BeginFault {
     /// The cells that are held and those asked for are more than the limit.
     WsFull { live: u64, asked: u64 },
     NoMemory,
+}
+
+impl From<NoMemory> for BeginFault {
+    ghost from_gives = { λ _ fault. fault ≡ begin_fault.NoMemory };
+
+    fn from(_fault: NoMemory) -> BeginFault {
+        BeginFault::NoMemory
+    }
 }
