@@ -35,7 +35,7 @@ IsStarter quad = Unit {0}
 IsStarter open_paren = Unit {0}
 IsStarter _ = ⊥
 
-may_ready : (o : Stack) (p : Place) (s : Sort) → IsStarter s → taken (state o may) p s ≡ begun o p s
+pub may_ready : (o : Stack) (p : Place) (s : Sort) → IsStarter s → taken (state o may) p s ≡ begun o p s
 may_ready o p (literal l) i = refl
 may_ready o p (named m k) i = refl
 may_ready o p (scalar v w) i = refl
@@ -56,7 +56,7 @@ may_ready o p close_bracket i = absurd i
 may_ready o p semicolon i = absurd i
 may_ready o p other i = absurd i
 
-first_ready : (o : Stack) (p : Place) (s : Sort) → IsStarter s → taken (state o first) p s ≡ begun o p s
+pub first_ready : (o : Stack) (p : Place) (s : Sort) → IsStarter s → taken (state o first) p s ≡ begun o p s
 first_ready o p (literal l) i = refl
 first_ready o p (named m k) i = refl
 first_ready o p (scalar v w) i = refl
@@ -77,7 +77,7 @@ first_ready o p close_bracket i = absurd i
 first_ready o p semicolon i = absurd i
 first_ready o p other i = absurd i
 
-glyph_first_ready : (o : Stack) (f : Dya) (m' : Mon) (q p : Place) (s : Sort) → IsStarter s → taken (state o (glyph_first f (Some m') q)) p s ≡ begun (waiting (for_monadic (one.Scalar m') q) o) p s
+pub glyph_first_ready : (o : Stack) (f : Dya) (m' : Mon) (q p : Place) (s : Sort) → IsStarter s → taken (state o (glyph_first f (Some m') q)) p s ≡ begun (waiting (for_monadic (one.Scalar m') q) o) p s
 glyph_first_ready o f m' q p (literal l) i = refl
 glyph_first_ready o f m' q p (named m k) i = refl
 glyph_first_ready o f m' q p (scalar v w) i = refl
@@ -98,7 +98,7 @@ glyph_first_ready o f m' q p close_bracket i = absurd i
 glyph_first_ready o f m' q p semicolon i = absurd i
 glyph_first_ready o f m' q p other i = absurd i
 
-glyph_after_ready : (o : Stack) (f : Dya) (e : Tree) (q p : Place) (s : Sort) → IsStarter s → taken (state o (glyph_after f e q)) p s ≡ begun (waiting (for_dyadic (two.Scalar f) e q) o) p s
+pub glyph_after_ready : (o : Stack) (f : Dya) (e : Tree) (q p : Place) (s : Sort) → IsStarter s → taken (state o (glyph_after f e q)) p s ≡ begun (waiting (for_dyadic (two.Scalar f) e q) o) p s
 glyph_after_ready o f e q p (literal l) i = refl
 glyph_after_ready o f e q p (named m k) i = refl
 glyph_after_ready o f e q p (scalar v w) i = refl
@@ -119,7 +119,7 @@ glyph_after_ready o f e q p close_bracket i = absurd i
 glyph_after_ready o f e q p semicolon i = absurd i
 glyph_after_ready o f e q p other i = absurd i
 
-axis_ready : (o : Stack) (a : Along) (p : Place) (s : Sort) → IsStarter s → taken (state o (axis_or_none a)) p s ≡ begun (waiting (along_axis a axis.Last) o) p s
+pub axis_ready : (o : Stack) (a : Along) (p : Place) (s : Sort) → IsStarter s → taken (state o (axis_or_none a)) p s ≡ begun (waiting (along_axis a axis.Last) o) p s
 axis_ready o a p (literal l) i = refl
 axis_ready o a p (named m k) i = refl
 axis_ready o a p (scalar v w) i = refl
@@ -180,7 +180,7 @@ sort_dya hs dya.Ge = refl
 sort_dya hs dya.Gt = refl
 sort_dya hs dya.Ne = refl
 
-sort_literal : (hs : List Heading) (k : Kind) (zs : List ℤ) → sort hs (literal_word (record { kind = k; cells = zs })) ≡ literal (record { kind = k; cells = zs })
+pub sort_literal : (hs : List Heading) (k : Kind) (zs : List ℤ) → sort hs (literal_word (record { kind = k; cells = zs })) ≡ literal (record { kind = k; cells = zs })
 sort_literal hs kind.Num zs = refl
 sort_literal hs kind.Char zs = refl
 
@@ -188,7 +188,7 @@ sort_literal hs kind.Char zs = refl
 pub record Ready (x : State) (o : Stack) : Type 0 where
   pub ready : (p : Place) (s : Sort) → IsStarter s → taken x p s ≡ begun o p s
 
-must_ready : (o : Stack) → Ready (state o must) o
+pub must_ready : (o : Stack) → Ready (state o must) o
 must_ready o = record { ready = λ p s i. refl }
 
 -- the last operand of an expression, with what then waits for it
@@ -204,7 +204,7 @@ unwound (indexed_assignment n qs value p) o = unwound value (waiting (for_indexe
 unwound (output value p) o = unwound value (waiting (for_output p) o)
 unwound e o = record { tree = e; stack = o }
 
-wind_unwound : (e : Tree) (o : Stack) → wind (unwound e o).tree (unwound e o).stack ≡ wind e o
+pub wind_unwound : (e : Tree) (o : Stack) → wind (unwound e o).tree (unwound e o).stack ≡ wind e o
 wind_unwound (constant l p) o = refl
 wind_unwound (variable n p) o = refl
 wind_unwound (call f left elided p) o = refl
@@ -223,7 +223,7 @@ wind_unwound (output value p) o = wind_unwound value (waiting (for_output p) o)
 abbrev pub after : Tree → Stack → State
 after e o = let w = unwound e o in state w.stack (operand w.tree)
 
-operand_is : (e : Tree) (o : Stack) → IsOperand e → after e o ≡ state o (operand e)
+pub operand_is : (e : Tree) (o : Stack) → IsOperand e → after e o ≡ state o (operand e)
 operand_is (constant l p) o i = refl
 operand_is (variable n p) o i = refl
 operand_is (call f elided elided p) o i = refl
@@ -242,23 +242,23 @@ operand_is (indexed_assignment n qs value p) o i = absurd i
 operand_is (output value p) o i = absurd i
 
 -- positions after positions
-abbrev joined : Positions → Positions → Positions
+abbrev pub joined : Positions → Positions → Positions
 joined done no_position = done
 joined done (position q qs) = joined (then_position done q) qs
 
-abbrev plus : Positions → Positions → Positions
+abbrev pub plus : Positions → Positions → Positions
 plus no_position qs = qs
 plus (position q done) qs = position q (plus done qs)
 
-plus-none : (done : Positions) → plus done no_position ≡ done
+pub plus-none : (done : Positions) → plus done no_position ≡ done
 plus-none no_position = refl
 plus-none (position q done) = ap (position q) (plus-none done)
 
-plus-then : (done : Positions) (q : Slot) (qs : Positions) → plus (then_position done q) qs ≡ plus done (position q qs)
+pub plus-then : (done : Positions) (q : Slot) (qs : Positions) → plus (then_position done q) qs ≡ plus done (position q qs)
 plus-then no_position q qs = refl
 plus-then (position r done) q qs = ap (position r) (plus-then done q qs)
 
-joined-plus : (done qs : Positions) → joined done qs ≡ plus done qs
+pub joined-plus : (done qs : Positions) → joined done qs ≡ plus done qs
 joined-plus done no_position = sym (plus-none done)
 joined-plus done (position q qs) = joined-plus (then_position done q) qs ∙ plus-then done q qs
 
@@ -272,10 +272,10 @@ module _ (hs : List Heading) (n : ℕ) where
   pub record Leads (x : State) (ms : List Mark) (y : State) : Type 0 where
     pub go : (ks : List Mark) (ts : List Token) → Spell n (ms ++ ks) ts → Reaches x ts y ks
 
-  leads_nil : {x : State} → Leads x [] x
+  pub leads_nil : {x : State} → Leads x [] x
   leads_nil = record { go = λ ks ts s. record { rest = ts; fits = s; same = refl } }
 
-  leads_then : {x y z : State} (a : List Mark) {b : List Mark} → Leads x a y → Leads y b z → Leads x (a ++ b) z
+  pub leads_then : {x y z : State} (a : List Mark) {b : List Mark} → Leads x a y → Leads y b z → Leads x (a ++ b) z
   leads_then {x} {y} {z} a {b} f g = record {
     go = λ ks ts s.
         let s' : Spell n (a ++ (b ++ ks)) ts = subst (λ l. Spell n l ts) (append_assoc a b ks) s in
@@ -284,11 +284,11 @@ module _ (hs : List Heading) (n : ℕ) where
         record { rest = q.rest; fits = q.fits; same = r.same ∙ q.same };
   }
 
-  leads_assoc : {x z : State} (a b c : List Mark) → Leads x (a ++ (b ++ c)) z → Leads x ((a ++ b) ++ c) z
+  pub leads_assoc : {x z : State} (a b c : List Mark) → Leads x (a ++ (b ++ c)) z → Leads x ((a ++ b) ++ c) z
   leads_assoc {x} {z} a b c f = subst (λ l. Leads x l z) (sym (append_assoc a b c)) f
 
   -- one token, after which the state may depend on the token
-  leads_token : {x z : State} (m : Mark) {b : List Mark} (y : Token → State) →
+  pub leads_token : {x z : State} (m : Mark) {b : List Mark} (y : Token → State) →
       ((t : Token) → Fits n m t → step hs n x t ≡ Some (y t)) → ((t : Token) → Fits n m t → Leads (y t) b z) → Leads x (m ∷ b) z
   leads_token {x} {z} m {b} y e f = record { go = go }
     where
@@ -297,27 +297,27 @@ module _ (hs : List Heading) (n : ℕ) where
       go ks (t ∷ ts) s = let r = (f t s.0).go ks ts s.1 in
           record { rest = r.rest; fits = r.fits; same = ap (λ v. run hs n v ts) (e t s.0) ∙ r.same }
 
-  place_of : Token → Place
+  pub place_of : Token → Place
   place_of t = record { line = n; column = t.from }
 
-  step_at : (x : State) (p : Place) (w : Word) (t : Token) {r : Option State} → Fits n (at p w) t → taken x p (sort hs w) ≡ r → step hs n x t ≡ r
+  pub step_at : (x : State) (p : Place) (w : Word) (t : Token) {r : Option State} → Fits n (at p w) t → taken x p (sort hs w) ≡ r → step hs n x t ≡ r
   step_at x p w t {r} f e = subst (λ q. taken x q (sort hs t.word) ≡ r) f.0 (subst (λ v. taken x p (sort hs v) ≡ r) f.1 e)
 
-  step_some : (x : State) (w : Word) (t : Token) {r : Option State} → Fits n (some w) t → taken x (record { line = n; column = t.from }) (sort hs w) ≡ r → step hs n x t ≡ r
+  pub step_some : (x : State) (w : Word) (t : Token) {r : Option State} → Fits n (some w) t → taken x (record { line = n; column = t.from }) (sort hs w) ≡ r → step hs n x t ≡ r
   step_some x w t {r} f e = subst (λ v. taken x (record { line = n; column = t.from }) (sort hs v) ≡ r) f e
 
-  leads_at : {x y z : State} (p : Place) (w : Word) {b : List Mark} → taken x p (sort hs w) ≡ Some y → Leads y b z → Leads x (at p w ∷ b) z
+  pub leads_at : {x y z : State} (p : Place) (w : Word) {b : List Mark} → taken x p (sort hs w) ≡ Some y → Leads y b z → Leads x (at p w ∷ b) z
   leads_at {x} {y} p w e f = leads_token (at p w) (λ t. y) (λ t i. step_at x p w t i e) (λ t i. f)
 
-  leads_some : {x y z : State} (w : Word) {b : List Mark} → ((q : Place) → taken x q (sort hs w) ≡ Some y) → Leads y b z → Leads x (some w ∷ b) z
+  pub leads_some : {x y z : State} (w : Word) {b : List Mark} → ((q : Place) → taken x q (sort hs w) ≡ Some y) → Leads y b z → Leads x (some w ∷ b) z
   leads_some {x} {y} w e f = leads_token (some w) (λ t. y) (λ t i. step_some x w t i (e (record { line = n; column = t.from }))) (λ t i. f)
 
   -- where the place of the token is kept for a while
-  leads_some_at : {x z : State} (w : Word) {b : List Mark} (y : Place → State) → ((q : Place) → taken x q (sort hs w) ≡ Some (y q)) → ((q : Place) → Leads (y q) b z) → Leads x (some w ∷ b) z
+  pub leads_some_at : {x z : State} (w : Word) {b : List Mark} (y : Place → State) → ((q : Place) → taken x q (sort hs w) ≡ Some (y q)) → ((q : Place) → Leads (y q) b z) → Leads x (some w ∷ b) z
   leads_some_at {x} w y e f = leads_token (some w) (λ t. y (record { line = n; column = t.from })) (λ t i. step_some x w t i (e (record { line = n; column = t.from }))) (λ t i. f (record { line = n; column = t.from }))
 
   -- [ k ]
-  number_leads : (o : Stack) (a : Along) (k : ℤ) → Leads (state o (axis_or_none a)) (some (glyph "[") ∷ some (word.Numbers (k ∷ [])) ∷ some (glyph "]") ∷ []) (awaits (along_axis a (axis.Numbered k)) o)
+  pub number_leads : (o : Stack) (a : Along) (k : ℤ) → Leads (state o (axis_or_none a)) (some (glyph "[") ∷ some (word.Numbers (k ∷ [])) ∷ some (glyph "]") ∷ []) (awaits (along_axis a (axis.Numbered k)) o)
   number_leads o a k = leads_some (glyph "[") (λ q. refl) (leads_some (word.Numbers (k ∷ [])) (λ q. refl) (leads_some (glyph "]") (λ q. refl) leads_nil))
 
   -- marks after which an expression may begin
@@ -326,7 +326,7 @@ module _ (hs : List Heading) (n : ℕ) where
     pub leads : Leads x ms to
     pub ready : Ready to o
 
-  monadic_part : (x : State) (o : Stack) (p : Place) → Ready x o → (f : MonFn) → Part x (monadic_marks f p) (waiting (for_monadic f p) o)
+  pub monadic_part : (x : State) (o : Stack) (p : Place) → Ready x o → (f : MonFn) → Part x (monadic_marks f p) (waiting (for_monadic f p) o)
   monadic_part x o p r (one.Scalar mon.Plus) =
       record { to = state o (glyph_first dya.Add (Some mon.Plus) p); leads = leads_at p (glyph "+") (r.ready p (scalar dya.Add (Some mon.Plus)) tt) leads_nil; ready = record { ready = glyph_first_ready o dya.Add mon.Plus p } }
   monadic_part x o p r (one.Scalar mon.Minus) =
@@ -353,7 +353,7 @@ module _ (hs : List Heading) (n : ℕ) where
   monadic_part x o p r (one.Reverse axis.Last) = record { to = state o (axis_or_none (reverses p)); leads = leads_at p (glyph "⌽") (r.ready p turn tt) leads_nil; ready = record { ready = axis_ready o (reverses p) } }
   monadic_part x o p r (one.Reverse (axis.Numbered k)) = record { to = awaits (for_monadic (one.Reverse (axis.Numbered k)) p) o; leads = leads_at p (glyph "⌽") (r.ready p turn tt) (number_leads o (reverses p) k); ready = must_ready (waiting (for_monadic (one.Reverse (axis.Numbered k)) p) o) }
 
-  dyadic_part : (e : Tree) (o : Stack) (p : Place) (f : DyaFn) → Part (state o (operand e)) (dyadic_marks f p) (waiting (for_dyadic f e p) o)
+  pub dyadic_part : (e : Tree) (o : Stack) (p : Place) (f : DyaFn) → Part (state o (operand e)) (dyadic_marks f p) (waiting (for_dyadic f e p) o)
   dyadic_part e o p (two.Scalar f) = record { to = state o (glyph_after f e p); leads = leads_at p (dya_glyph f) (ap (λ s. taken (state o (operand e)) p s) (sort_dya hs f)) leads_nil; ready = record { ready = glyph_after_ready o f e p } }
   dyadic_part e o p two.Reshape = record { to = awaits (for_dyadic two.Reshape e p) o; leads = leads_at p (glyph "⍴") refl leads_nil; ready = must_ready (waiting (for_dyadic two.Reshape e p) o) }
   dyadic_part e o p two.Catenate = record { to = awaits (for_dyadic two.Catenate e p) o; leads = leads_at p (glyph ",") refl leads_nil; ready = must_ready (waiting (for_dyadic two.Catenate e p) o) }
@@ -374,29 +374,29 @@ module _ (hs : List Heading) (n : ℕ) where
   dyadic_part e o p (two.Expand axis.Last) = record { to = state o (axis_or_none (expands e p)); leads = leads_at p (glyph "\\") refl leads_nil; ready = record { ready = axis_ready o (expands e p) } }
   dyadic_part e o p (two.Expand (axis.Numbered k)) = record { to = awaits (for_dyadic (two.Expand (axis.Numbered k)) e p) o; leads = leads_at p (glyph "\\") refl (number_leads o (expands e p) k); ready = must_ready (waiting (for_dyadic (two.Expand (axis.Numbered k)) e p) o) }
 
-  reduction_part : (o : Stack) (f : Dya) (m : Option Mon) (q p : Place) (x : Axis) → Part (state o (glyph_first f m q)) (along "/" "⌿" x p) (waiting (for_reduction f x p) o)
+  pub reduction_part : (o : Stack) (f : Dya) (m : Option Mon) (q p : Place) (x : Axis) → Part (state o (glyph_first f m q)) (along "/" "⌿" x p) (waiting (for_reduction f x p) o)
   reduction_part o f m q p axis.Last = record { to = state o (axis_or_none (reduces f p)); leads = leads_at p (glyph "/") refl leads_nil; ready = record { ready = axis_ready o (reduces f p) } }
   reduction_part o f m q p axis.First = record { to = awaits (for_reduction f axis.First p) o; leads = leads_at p (glyph "⌿") refl leads_nil; ready = must_ready (waiting (for_reduction f axis.First p) o) }
   reduction_part o f m q p (axis.Numbered k) = record { to = awaits (for_reduction f (axis.Numbered k) p) o; leads = leads_at p (glyph "/") refl (number_leads o (reduces f p) k); ready = must_ready (waiting (for_reduction f (axis.Numbered k) p) o) }
 
-  from_ready : {x : State} {o : Stack} (r : Ready x o) (p : Place) {s s' : Sort} {y : Option State} → s ≡ s' → IsStarter s' → begun o p s' ≡ y → taken x p s ≡ y
+  pub from_ready : {x : State} {o : Stack} (r : Ready x o) (p : Place) {s s' : Sort} {y : Option State} → s ≡ s' → IsStarter s' → begun o p s' ≡ y → taken x p s ≡ y
   from_ready {x} r p {s} {s'} e i b = ap (λ v. taken x p v) e ∙ r.ready p s' i ∙ b
 
   -- an operand leaves the stack as it is
-  as_operand : {x : State} {ms : List Mark} (e : Tree) (o : Stack) → IsOperand e → Leads x ms (after e o) → Leads x ms (state o (operand e))
+  pub as_operand : {x : State} {ms : List Mark} (e : Tree) (o : Stack) → IsOperand e → Leads x ms (after e o) → Leads x ms (state o (operand e))
   as_operand {x} {ms} e o i f = subst (λ y. Leads x ms y) (operand_is e o i) f
 
-  closing : (e : Tree) (p q : Place) (o : Stack) → taken (after e (in_parenthesis p o)) q close_paren ≡ Some (state o (operand (parenthesis e p)))
+  pub closing : (e : Tree) (p q : Place) (o : Stack) → taken (after e (in_parenthesis p o)) q close_paren ≡ Some (state o (operand (parenthesis e p)))
   closing e p q o = ap (λ w. close_parenthesis w.tree w.stack) (wind_unwound e (in_parenthesis p o))
 
-  bracket : (e a : Tree) (done : Positions) (p q : Place) (o : Stack) → taken (after e (in_subscript a done p o)) q close_bracket ≡ Some (state o (operand (subscript a (then_position done (given e)) p)))
+  pub bracket : (e a : Tree) (done : Positions) (p q : Place) (o : Stack) → taken (after e (in_subscript a done p o)) q close_bracket ≡ Some (state o (operand (subscript a (then_position done (given e)) p)))
   bracket e a done p q o = ap (λ w. close_subscript (given w.tree) w.stack) (wind_unwound e (in_subscript a done p o))
 
-  separator : (e a : Tree) (done : Positions) (p q : Place) (o : Stack) → taken (after e (in_subscript a done p o)) q semicolon ≡ Some (state (in_subscript a (then_position done (given e)) p o) may)
+  pub separator : (e a : Tree) (done : Positions) (p q : Place) (o : Stack) → taken (after e (in_subscript a done p o)) q semicolon ≡ Some (state (in_subscript a (then_position done (given e)) p o) may)
   separator e a done p q o = ap (λ w. next_position (given w.tree) w.stack) (wind_unwound e (in_subscript a done p o))
 
   mutual
-    expression_leads : (e : Tree) → IsExpression hs e → (x : State) (o : Stack) → Ready x o → Leads x (spelling e) (after e o)
+    pub expression_leads : (e : Tree) → IsExpression hs e → (x : State) (o : Stack) → Ready x o → Leads x (spelling e) (after e o)
     expression_leads (constant l p) h x o r = leads_at p (literal_word l) (from_ready r p (sort_literal hs l.kind l.cells) tt refl) leads_nil
     expression_leads (variable m p) h x o r = leads_at p (word.Name m) (from_ready r p (ap (named m) h.free) tt refl) leads_nil
     expression_leads (call f elided elided p) h x o r = leads_at p (word.Name f) (from_ready r p (ap (named f) h.heads) tt refl) leads_nil
@@ -451,7 +451,7 @@ module _ (hs : List Heading) (n : ℕ) where
         (leads_some (glyph "←") (λ q. refl)
         (expression_leads value h (awaits (for_output p) o) (waiting (for_output p) o) (must_ready (waiting (for_output p) o))))
 
-    positions_leads : (qs : Positions) → HasPosition qs → ArePositions hs qs → (a : Tree) (done : Positions) (p : Place) (o : Stack) (lead : Mark) (x : State) →
+    pub positions_leads : (qs : Positions) → HasPosition qs → ArePositions hs qs → (a : Tree) (done : Positions) (p : Place) (o : Stack) (lead : Mark) (x : State) →
         ((t : Token) → Fits n lead t → step hs n x t ≡ Some (state (in_subscript a done p o) may)) →
         {b : List Mark} {z : State} → Leads (state o (operand (subscript a (joined done qs) p))) b z →
         Leads x (position_spelling lead qs ++ (some (glyph "]") ∷ b)) z
@@ -474,16 +474,16 @@ module _ (hs : List Heading) (n : ℕ) where
         (positions_leads (position q qs) tt i.1 a (then_position done (given c)) p o (some (glyph ";")) (after c (in_subscript a done p o))
         (λ t' k'. step_some (after c (in_subscript a done p o)) (glyph ";") t' k' (separator c a done p (record { line = n; column = t'.from }) o)) f)))
 
-  nothing_left : (y : State) (ts : List Token) → Spell n [] ts → run hs n (Some y) ts ≡ Some y
+  pub nothing_left : (y : State) (ts : List Token) → Spell n [] ts → run hs n (Some y) ts ≡ Some y
   nothing_left y [] s = refl
   nothing_left y (t ∷ ts) s = absurd s
 
-  ends : {x y : State} (ms : List Mark) → Leads x ms y → (ts : List Token) → Spell n ms ts → run hs n (Some x) ts ≡ Some y
+  pub ends : {x y : State} (ms : List Mark) → Leads x ms y → (ts : List Token) → Spell n ms ts → run hs n (Some x) ts ≡ Some y
   ends {x} {y} ms f ts s =
       let r = f.go [] ts (subst (λ l. Spell n l ts) (sym (append-nil ms)) s) in
       r.same ∙ nothing_left y r.rest r.fits
 
-  finished_after : (e : Tree) (b : Option Place) → finished (after e (bottom b)) ≡ finished_with e (bottom b)
+  pub finished_after : (e : Tree) (b : Option Place) → finished (after e (bottom b)) ≡ finished_with e (bottom b)
   finished_after e b = ap (λ w. finished_with w.tree w.stack) (wind_unwound e (bottom b))
 
   -- the reader gives each statement that spells the tokens

@@ -3,3 +3,4 @@ pub mod Machine
 pub mod Complete
 pub mod Unique
 pub mod Order
+pub mod Decide

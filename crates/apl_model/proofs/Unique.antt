@@ -30,7 +30,7 @@ pub one_expression : (hs : List Heading) (n : ℕ) (ts : List Token) (s r : Tree
 one_expression hs n ts s r h i a b = let e = one_statement hs n ts (expression s) (expression r) h i a b in cc
 
 -- a token that is none of the grammar of statements stops the reader
-other_stops : (o : Stack) (x : Status) (p : Place) → taken (state o x) p other ≡ None
+pub other_stops : (o : Stack) (x : Status) (p : Place) → taken (state o x) p other ≡ None
 other_stops o first p = refl
 other_stops o must p = refl
 other_stops o may p = refl
@@ -46,18 +46,18 @@ other_stops o (after_jot_dot e q) p = refl
 other_stops o (after_dot f e q) p = refl
 other_stops o (after_quad q) p = refl
 
-run_none : (hs : List Heading) (n : ℕ) (ts : List Token) → run hs n None ts ≡ None
+pub run_none : (hs : List Heading) (n : ℕ) (ts : List Token) → run hs n None ts ≡ None
 run_none hs n [] = refl
 run_none hs n (t ∷ ts) = run_none hs n ts
 
-stopped_at : (hs : List Heading) (n : ℕ) (x : Option State) (u : Token) (ts : List Token) → glyph ":" ≡ u.word → run hs n x (u ∷ ts) ≡ None
+pub stopped_at : (hs : List Heading) (n : ℕ) (x : Option State) (u : Token) (ts : List Token) → glyph ":" ≡ u.word → run hs n x (u ∷ ts) ≡ None
 stopped_at hs n None u ts e = run_none hs n ts
 stopped_at hs n (Some x) u ts e =
     subst (λ w. run hs n (taken x (record { line = n; column = u.from }) (sort hs w)) ts ≡ None) e
     (ap (λ v. run hs n v ts) (other_stops x.stack x.status (record { line = n; column = u.from })) ∙ run_none hs n ts)
 
 -- no statement has : as its second token
-no_label : {A : Type 0} (hs : List Heading) (n : ℕ) (t u : Token) (ts : List Token) (s : Statement) → IsStatement hs s →
+pub no_label : {A : Type 0} (hs : List Heading) (n : ℕ) (t u : Token) (ts : List Token) (s : Statement) → IsStatement hs s →
     Spell n (statement_spelling s) (t ∷ u ∷ ts) → glyph ":" ≡ u.word → A
 no_label hs n t u ts s h a e =
     let f = read_complete hs n s h (t ∷ u ∷ ts) a in
@@ -81,19 +81,19 @@ one_body_line hs n (t ∷ u ∷ ts) (Some l) (Some m) s r h i a b =
 
 -- ---- Commands and headers, by their words alone ----
 
-abbrev word_of : Mark → Word
+abbrev pub word_of : Mark → Word
 word_of (at p w) = w
 word_of (some w) = w
 
-abbrev words_of : List Mark → List Word
+abbrev pub words_of : List Mark → List Word
 words_of [] = []
 words_of (m ∷ ms) = word_of m ∷ words_of ms
 
-abbrev token_words : List Token → List Word
+abbrev pub token_words : List Token → List Word
 token_words [] = []
 token_words (t ∷ ts) = t.word ∷ token_words ts
 
-same_words : (n : ℕ) (ms : List Mark) (ts : List Token) → Spell n ms ts → words_of ms ≡ token_words ts
+pub same_words : (n : ℕ) (ms : List Mark) (ts : List Token) → Spell n ms ts → words_of ms ≡ token_words ts
 same_words n [] [] s = refl
 same_words n [] (t ∷ ts) s = absurd s
 same_words n (m ∷ ms) [] s = absurd s
@@ -101,30 +101,30 @@ same_words n (at p w ∷ ms) (t ∷ ts) s = let e = same_words n ms ts s.1 in le
 same_words n (some w ∷ ms) (t ∷ ts) s = let e = same_words n ms ts s.1 in let f = s.0 in cc
 
 -- the names among words
-abbrev names_of : List Word → List (List ℕ)
+abbrev pub names_of : List Word → List (List ℕ)
 names_of [] = []
 names_of (word.Name n ∷ ws) = n ∷ names_of ws
 names_of (_ ∷ ws) = names_of ws
 
-names_of-names : (ns : List (List ℕ)) → names_of (words_of (name_marks ns)) ≡ ns
+pub names_of-names : (ns : List (List ℕ)) → names_of (words_of (name_marks ns)) ≡ ns
 names_of-names [] = refl
 names_of-names (n ∷ ns) = ap (λ l. n ∷ l) (names_of-names ns)
 
-names_of-locals : (ns : List (List ℕ)) → names_of (words_of (local_marks ns)) ≡ ns
+pub names_of-locals : (ns : List (List ℕ)) → names_of (words_of (local_marks ns)) ≡ ns
 names_of-locals [] = refl
 names_of-locals (n ∷ ns) = ap (λ l. n ∷ l) (names_of-locals ns)
 
-abbrev origin_read : List Word → Option Command
+abbrev pub origin_read : List Word → Option Command
 origin_read (word.Numbers (o ∷ []) ∷ []) = Some (command.Origin o)
 origin_read _ = None
 
-abbrev command_read : List Word → Option Command
+abbrev pub command_read : List Word → Option Command
 command_read (w ∷ word.Name m ∷ ws) =
     cond (is_same_name m (codes "VARS")) (Some command.Vars) (cond (is_same_name m (codes "FNS")) (Some command.Fns)
     (cond (is_same_name m (codes "ERASE")) (Some (command.Erase (names_of ws))) (origin_read ws)))
 command_read _ = None
 
-command_complete : (c : Command) → command_read (words_of (command_spelling c)) ≡ Some c
+pub command_complete : (c : Command) → command_read (words_of (command_spelling c)) ≡ Some c
 command_complete command.Vars = refl
 command_complete command.Fns = refl
 command_complete (command.Erase ns) = ap (λ l. Some (command.Erase l)) (names_of-names ns)
@@ -135,21 +135,21 @@ one_command n ts c d a b =
     let e = command_complete c in let f = command_complete d in
     let g = same_words n (command_spelling c) ts a in let k = same_words n (command_spelling d) ts b in cc
 
-abbrev function_read : Option (List ℕ) → List Word → Option Header
+abbrev pub function_read : Option (List ℕ) → List Word → Option Header
 function_read z (word.Name x ∷ word.Name f ∷ word.Name y ∷ ws) = Some (record { f = f; result = z; left = Some x; right = Some y; locals = names_of ws })
 function_read z (word.Name f ∷ word.Name y ∷ ws) = Some (record { f = f; result = z; left = None; right = Some y; locals = names_of ws })
 function_read z (word.Name f ∷ ws) = Some (record { f = f; result = z; left = None; right = None; locals = names_of ws })
 function_read z _ = None
 
-abbrev header_read : List Word → Option Header
+abbrev pub header_read : List Word → Option Header
 header_read (w ∷ word.Name z ∷ word.Glyph c ∷ ws) = cond (c == code "←") (function_read (Some z) ws) (function_read None (word.Name z ∷ word.Glyph c ∷ ws))
 header_read (w ∷ ws) = function_read None ws
 header_read [] = None
 
-no_right : false ≡ true → ⊥
+pub no_right : false ≡ true → ⊥
 no_right e = cc
 
-header_complete : (f : List ℕ) (z x y : Option (List ℕ)) (ls : List (List ℕ)) → IsHeader (record { f = f; result = z; left = x; right = y; locals = ls }) →
+pub header_complete : (f : List ℕ) (z x y : Option (List ℕ)) (ls : List (List ℕ)) → IsHeader (record { f = f; result = z; left = x; right = y; locals = ls }) →
     header_read (words_of (header_spelling (record { f = f; result = z; left = x; right = y; locals = ls }))) ≡ Some (record { f = f; result = z; left = x; right = y; locals = ls })
 header_complete f None None None [] h = refl
 header_complete f None None None (l ∷ ls) h = ap (λ v. Some (record { f = f; result = None; left = None; right = None; locals = l ∷ v })) (names_of-locals ls)
@@ -170,18 +170,18 @@ one_header n ts h k i j a b =
 
 -- ---- Scripts ----
 
-close_stops : (hs : List Heading) (n : ℕ) (t : Token) (ts : List Token) → glyph ")" ≡ t.word → run hs n (Some start) (t ∷ ts) ≡ None
+pub close_stops : (hs : List Heading) (n : ℕ) (t : Token) (ts : List Token) → glyph ")" ≡ t.word → run hs n (Some start) (t ∷ ts) ≡ None
 close_stops hs n t ts e = subst (λ w. run hs n (taken start (record { line = n; column = t.from }) (sort hs w)) ts ≡ None) e (run_none hs n ts)
 
-none_clash : {A : Type 0} {s : Statement} → Some s ≡ None → A
+pub none_clash : {A : Type 0} {s : Statement} → Some s ≡ None → A
 none_clash e = cc
 
-closed_out : {A : Type 0} (hs : List Heading) (n : ℕ) (t : Token) (ts : List Token) (s : Statement) → IsStatement hs s →
+pub closed_out : {A : Type 0} (hs : List Heading) (n : ℕ) (t : Token) (ts : List Token) (s : Statement) → IsStatement hs s →
     Spell n (statement_spelling s) (t ∷ ts) → glyph ")" ≡ t.word → A
 closed_out hs n t ts s h a e = none_clash (sym (read_complete hs n s h (t ∷ ts) a) ∙ ap (option_and_then finished) (close_stops hs n t ts e))
 
 -- no statement begins as a command does
-no_command : {A : Type 0} (hs : List Heading) (n : ℕ) (ts : List Token) (s : Statement) (c : Command) → IsStatement hs s →
+pub no_command : {A : Type 0} (hs : List Heading) (n : ℕ) (ts : List Token) (s : Statement) (c : Command) → IsStatement hs s →
     Spell n (statement_spelling s) ts → Spell n (command_spelling c) ts → A
 no_command hs n [] s command.Vars h a b = absurd b
 no_command hs n [] s command.Fns h a b = absurd b
@@ -200,13 +200,13 @@ one_statement_item hs l n m s r a b =
 pub one_command_item : (l : Line) (n m : ℕ) (c d : Command) → IsCommandLine l n c → IsCommandLine l m d → command_item n c ≡ command_item m d
 one_command_item l n m c d a b = let e = one_command l.number l.tokens c d a.spells b.spells in let f = a.number in let g = b.number in cc
 
-one_line : (hs : List Heading) (l : Line) (b c : BodyLine) → IsBodyLine hs l b → IsBodyLine hs l c → b ≡ c
+pub one_line : (hs : List Heading) (l : Line) (b c : BodyLine) → IsBodyLine hs l b → IsBodyLine hs l c → b ≡ c
 one_line hs l b c x y =
     let e = one_body_line hs l.number l.tokens b.label c.label b.statement c.statement x.statement y.statement x.spells y.spells in
     let f : b.line ≡ c.line = x.number ∙ sym y.number in
     λ i. record { line = f i; label = e.0 i; statement = e.1 i }
 
-one_body : (hs : List Heading) (ls : List Line) (bs cs : List BodyLine) → AllZip (IsBodyLine hs) ls bs → AllZip (IsBodyLine hs) ls cs → bs ≡ cs
+pub one_body : (hs : List Heading) (ls : List Line) (bs cs : List BodyLine) → AllZip (IsBodyLine hs) ls bs → AllZip (IsBodyLine hs) ls cs → bs ≡ cs
 one_body hs [] [] [] x y = refl
 one_body hs [] [] (c ∷ cs) x y = absurd y
 one_body hs [] (b ∷ bs) cs x y = absurd x
@@ -214,7 +214,7 @@ one_body hs (l ∷ ls) [] cs x y = absurd x
 one_body hs (l ∷ ls) (b ∷ bs) [] x y = absurd y
 one_body hs (l ∷ ls) (b ∷ bs) (c ∷ cs) x y = λ i. one_line hs l b c x.0 y.0 i ∷ one_body hs ls bs cs x.1 y.1 i
 
-one_definition : (hs : List Heading) (top : Line) (ls : List Line) (last : Line) (d e : Definition) → IsDefinition hs top ls last d → IsDefinition hs top ls last e → d ≡ e
+pub one_definition : (hs : List Heading) (top : Line) (ls : List Line) (last : Line) (d e : Definition) → IsDefinition hs top ls last d → IsDefinition hs top ls last e → d ≡ e
 one_definition hs top ls last d e x y =
     let o : d.opened ≡ e.opened = x.opened ∙ sym y.opened in
     let c : d.closed ≡ e.closed = x.closed ∙ sym y.closed in
@@ -222,7 +222,7 @@ one_definition hs top ls last d e x y =
     let b = one_body hs ls d.body e.body x.body y.body in
     λ i. record { opened = o i; closed = c i; header = h i; body = b i }
 
-one_item : (hs : List Heading) (p : Part) (a b : Item) → IsItem hs p a → IsItem hs p b → a ≡ b
+pub one_item : (hs : List Heading) (p : Part) (a b : Item) → IsItem hs p a → IsItem hs p b → a ≡ b
 one_item hs (alone l) (statement_item n s) (statement_item m r) x y = one_statement_item hs l n m s r x y
 one_item hs (alone l) (statement_item n s) (command_item m c) x y = no_command hs l.number l.tokens s c x.statement x.spells y.spells
 one_item hs (alone l) (command_item n c) (statement_item m s) x y = no_command hs l.number l.tokens s c y.statement y.spells x.spells
@@ -237,7 +237,7 @@ one_item hs (defined top ls (Some last)) (statement_item n s) b x y = absurd x
 one_item hs (defined top ls (Some last)) (command_item n c) b x y = absurd x
 one_item hs (defined top ls None) a b x y = absurd x
 
-one_list : (hs : List Heading) (ps : List Part) (is js : List Item) → AllZip (IsItem hs) ps is → AllZip (IsItem hs) ps js → is ≡ js
+pub one_list : (hs : List Heading) (ps : List Part) (is js : List Item) → AllZip (IsItem hs) ps is → AllZip (IsItem hs) ps js → is ≡ js
 one_list hs [] [] [] x y = refl
 one_list hs [] [] (j ∷ js) x y = absurd y
 one_list hs [] (i ∷ is) js x y = absurd x
@@ -246,17 +246,17 @@ one_list hs (p ∷ ps) (i ∷ is) [] x y = absurd y
 one_list hs (p ∷ ps) (i ∷ is) (j ∷ js) x y = λ k. one_item hs p i j x.0 y.0 k ∷ one_list hs ps is js x.1 y.1 k
 
 -- the classes that an item gives
-abbrev heading_in : Item → List Heading
+abbrev pub heading_in : Item → List Heading
 heading_in (statement_item n s) = []
 heading_in (command_item n c) = []
 heading_in (definition_item d) = heading_of d.header ∷ []
 
-headings-cons : (i : Item) (is : List Item) → headings (i ∷ is) ≡ heading_in i ++ headings is
+pub headings-cons : (i : Item) (is : List Item) → headings (i ∷ is) ≡ heading_in i ++ headings is
 headings-cons (statement_item n s) is = refl
 headings-cons (command_item n c) is = refl
 headings-cons (definition_item d) is = refl
 
-one_heading : (hs ks : List Heading) (p : Part) (a b : Item) → IsItem hs p a → IsItem ks p b → heading_in a ≡ heading_in b
+pub one_heading : (hs ks : List Heading) (p : Part) (a b : Item) → IsItem hs p a → IsItem ks p b → heading_in a ≡ heading_in b
 one_heading hs ks (alone l) (statement_item n s) (statement_item m r) x y = refl
 one_heading hs ks (alone l) (statement_item n s) (command_item m c) x y = refl
 one_heading hs ks (alone l) (command_item n c) (statement_item m s) x y = refl
@@ -272,7 +272,7 @@ one_heading hs ks (defined top ls (Some last)) (statement_item n s) b x y = absu
 one_heading hs ks (defined top ls (Some last)) (command_item n c) b x y = absurd x
 one_heading hs ks (defined top ls None) a b x y = absurd x
 
-same_headings : (hs ks : List Heading) (ps : List Part) (is js : List Item) → AllZip (IsItem hs) ps is → AllZip (IsItem ks) ps js → headings is ≡ headings js
+pub same_headings : (hs ks : List Heading) (ps : List Part) (is js : List Item) → AllZip (IsItem hs) ps is → AllZip (IsItem ks) ps js → headings is ≡ headings js
 same_headings hs ks [] [] [] x y = refl
 same_headings hs ks [] [] (j ∷ js) x y = absurd y
 same_headings hs ks [] (i ∷ is) js x y = absurd x

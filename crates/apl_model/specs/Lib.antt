@@ -2,6 +2,7 @@ pub mod Call
 pub mod Characters
 pub mod Environment
 pub mod Evaluation
+pub mod Examples
 pub mod Grammar
 pub mod Immediate
 pub mod Laws

@@ -2,6 +2,7 @@
 //! contracts of the machine cite.
 #![tactic(auto)]
 
+mod examples;
 mod functions;
 mod laws;
 mod outlines;
@@ -10,6 +11,7 @@ mod texts;
 mod tokens;
 mod trees;
 
+pub use examples::{tokens_of_ten_lines, trees_of_fifteen_lines};
 pub use functions::{Axis, DyaFn, MonFn};
 pub use laws::{
     one_body_line, one_command, one_expression, one_first_line_refusal, one_first_reading_refusal,
