@@ -1,5 +1,5 @@
 -- What calls do to the bytes that a source still has, and to those that a sink was given. Either may not tell.
-use Rattle.std.specs.Prelude.{◌≡◌, ℕ, ◌<◌, ◌≤◌, List, [], ◌++◌, length, take, Option, Some, None}
+use Rattle.std.specs.Prelude.{◌≡◌, ℕ, ◌<◌, ◌≤◌, List, ◌++◌, length, take, Option, Some, None}
 
 -- what a source told before these bytes were taken, by what it tells afterwards
 abbrev pub before_taking : List ℕ → Option (List ℕ) → Option (List ℕ)

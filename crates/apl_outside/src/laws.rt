@@ -1,6 +1,6 @@
 //! Laws of the definitions that the contracts cite, each proved as the contract of a function that does nothing.
-ghost use Rattle.std.specs.Prelude.{◌≡◌, ℕ, ◌+◌, ◌-◌, ◌^◌, ◌≤◌, List, [], ◌∷◌, ◌++◌, length, take, drop, Option, Some, None};
-ghost use Rattle.apl_outside.specs.Bytes.{Loses, Gains, LosesCount, LosesUpTo, GainsPart};
+ghost use Rattle.std.specs.Prelude.{◌≡◌, ℕ, ◌-◌, ◌^◌, ◌≤◌, List, [], ◌∷◌, ◌++◌, length, take, drop, Option, Some, None};
+ghost use Rattle.apl_outside.specs.Bytes.{Loses, Gains, GainsPart};
 ghost use Rattle.apl_outside.specs.Faults.{Rose, one_more};
 
 /// What the definitions say of small values.

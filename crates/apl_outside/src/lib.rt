@@ -16,3 +16,6 @@ pub use memory_source::MemSource;
 pub use sinks::Sink;
 pub use sources::{Failed, Source};
 pub use whole::{ReadEnd, push_all, read_all};
+
+#[cfg(test)]
+mod tests;

@@ -1,4 +1,4 @@
-ghost use Rattle.std.specs.Prelude.{◌≡◌, ℕ, ◌<◌, ◌≤◌, ◌↔◌, [], Some, length, take, drop, min, IsErr, IfOk, IfSome, OnErr, Contains};
+ghost use Rattle.std.specs.Prelude.{◌≡◌, ◌<◌, ◌≤◌, ◌↔◌, [], Some, length, take, drop, min, IsErr, IfOk, OnErr, Contains};
 ghost use Rattle.apl_outside.specs.Bytes.{Loses};
 ghost use Rattle.apl_outside.specs.Faults.{Rose, one_more};
 

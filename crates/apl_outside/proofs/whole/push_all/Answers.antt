@@ -1,4 +1,4 @@
-use Rattle.std.proofs.Common.{take, arith}
+use Rattle.std.proofs.Common.{arith}
 use Rattle.std.proofs.lemmas.List.{take_rest}
 use Rattle.apl_outside.proofs.Parts.{gains_then, take_further}
 use Rattle.apl_outside.proofs.whole.push_all.Goals as goal

@@ -1,4 +1,4 @@
-use Rattle.std.proofs.Common.{length, ◌+◌, ◌-◌, ◌≡◌, ◌≤◌, min, vec_len}
+use Rattle.std.proofs.Common.{◌+◌, ◌-◌, ◌≡◌, ◌≤◌, min, vec_len}
 use Rattle.apl_outside.specs.Bytes.{Loses}
 use Rattle.apl_outside.proofs.whole.read_all.Given as goal
 
