@@ -1,5 +1,5 @@
 -- How a script's lines, and a line's operands, come from the first place of a byte.
-use Rattle.std.proofs.Common.{◌≡◌, ◌≢◌, ℕ, ◌+◌, ◌-◌, ◌<◌, ◌≤◌, Bool, true, false, not, List, [], ◌∷◌, length, take, drop, cond, refl, ap, sym, ◌∙◌, arith, Option, Some, None, nat_lt, suc}
+use Rattle.std.proofs.Common.{◌≡◌, ◌≢◌, ℕ, ◌+◌, ◌-◌, ◌<◌, ◌≤◌, true, false, not, List, [], ◌∷◌, length, take, drop, cond, refl, ap, sym, ◌∙◌, arith, Some, None, nat_lt, suc}
 use borrow.Author.Tests.{ltb-true, ltb-false}
 use Rattle.std.proofs.lemmas.Grind.{common_steps}
 use Rattle.std.specs.List.{before_first, after_first, position_or_len, position}
@@ -20,23 +20,23 @@ lines_of-cons byte (next ∷ bytes) =
     let all : List ℕ = next ∷ bytes in
     let n : ℕ = position_or_len is_newline all in
     elim (is_newline byte) as (λ t. (cond t ([] ∷ lines_of all) (before_first_line byte (lines_of all))) ≡ take (cond (not t) (1 + n) 0) (byte ∷ all) ∷ lines_of (drop (cond (not t) (1 + n) 0 + 1) (byte ∷ all))) [
-      true ↦ refl
-    | false ↦ ap (before_first_line byte) (lines_of-cons next bytes) ∙ sym (cut byte n all)
+      | true ↦ refl
+      | false ↦ ap (before_first_line byte) (lines_of-cons next bytes) ∙ sym (cut byte n all)
     ]
 
 -- a place that was found is the first one, and it is one
 place-found : (n l at : ℕ) → Some at ≡ cond (nat_lt n l) (Some n) None → (at ≡ n) × (n < l)
 place-found n l at h = elim (nat_lt n l) as (λ t. (nat_lt n l ≡ t) → Some at ≡ cond t (Some n) None → (at ≡ n) × (n < l)) [
-      true ↦ λ lt e. (let same : at ≡ n = cc in same, ltb-true n l lt)
-    | false ↦ λ _ e. cc
-    ] refl h
+  | true ↦ λ lt e. (let same : at ≡ n = cc in same, ltb-true n l lt)
+  | false ↦ λ _ e. cc
+] refl h
 
 -- where none was found the first one would be at the end
 place-absent : (n l : ℕ) → None ≡ cond (nat_lt n l) (Some n) None → l ≤ n
 place-absent n l h = elim (nat_lt n l) as (λ t. (nat_lt n l ≡ t) → None ≡ cond t (Some n) None → l ≤ n) [
-      true ↦ λ _ e. absurd (cc)
-    | false ↦ λ ge e. ltb-false n l ge
-    ] refl h
+  | true ↦ λ _ e. absurd (cc)
+  | false ↦ λ ge e. ltb-false n l ge
+] refl h
 
 -- the lines round a newline that was found
 pub lines_of-at : (bytes : List ℕ) (at : ℕ) → bytes ≢ [] → Some at ≡ position is_newline bytes →

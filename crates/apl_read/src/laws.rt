@@ -15,5 +15,4 @@ pub fn worked_lines()
     ensures too_many_digits { refusal_of (codes "100000000000000000") ≡ Some (not_built 1) }
     ensures blank { refusal_of (codes "2 +3") ≡ Some (not_built 1) }
     ensures three_operands { refusal_of (codes "1+2+3") ≡ Some (not_built 1) }
-{
-}
+{}

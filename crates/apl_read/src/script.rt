@@ -36,5 +36,11 @@ pub fn read_script(alloc: Global, script: &[u8]) -> Result<Vec<Line>, ReadFault>
 fn refuse<T>(line: u32, column: u32, cause: Cause) -> Result<T, ReadFault>
     ensures { result ≡ Err (ReadFault.Refused (record { line = line; column = column; cause = cause })) }
 {
-    Err(ReadFault::Refused { refusal: Refusal { line, column, cause } })
+    Err(ReadFault::Refused {
+        refusal: Refusal {
+            line,
+            column,
+            cause,
+        },
+    })
 }

@@ -1,7 +1,6 @@
 -- What a sink that was lent to a call has gained at its end.
 use Rattle.std.specs.Prelude.{◌≡◌, ℕ, ◌⊎◌, List, ◌++◌, Option}
 use Rattle.apl_outside.specs.Bytes.{Gains}
-use Rattle.apl_outside.specs.Faults.{Rose}
 
 -- a sink gains some of these bytes, from their front; maybe none of them, maybe all
 pub record GainsPrefix (old new : Option (List ℕ)) (bytes : List ℕ) : Type 0 where

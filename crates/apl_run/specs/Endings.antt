@@ -6,7 +6,7 @@ use Rattle.apl_run.specs.Immediate.{Answer}
 use Rattle.apl_run.specs.Statuses.{IsAnswer}
 use Rattle.apl_run.specs.declared.print.PrintFault.{PrintFault}
 use Rattle.apl_run.specs.declared.print.PrintFault.TheVariants.{OutFault, NoMemory}
-use Rattle.apl_run.specs.declared.statuses.Which.TheVariants.{Out, Trace}
+use Rattle.apl_run.specs.declared.statuses.Which.TheVariants.{Out}
 use Rattle.apl_run.specs.declared.statuses.Status.{Status}
 use Rattle.apl_run.specs.declared.statuses.Status.TheVariants.{WriteFault}
 use Rattle.apl_run.specs.declared.statuses.Status.TheVariants as status

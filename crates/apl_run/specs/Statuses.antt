@@ -1,5 +1,5 @@
 -- The numbers of the statuses, the lines that some of them write at last, and which of them share a clause.
-use Rattle.std.specs.Prelude.{ℕ, List, [], ◌++◌, codes}
+use Rattle.std.specs.Prelude.{ℕ, List, [], codes}
 use Rattle.apl_run.specs.Immediate.{with_newline}
 use Rattle.apl_run.specs.declared.statuses.Which.TheVariants.{Trace}
 use Rattle.apl_run.specs.declared.statuses.Status.{Status}

@@ -1,5 +1,5 @@
 -- Each piece is the next part of what is still to come.
-use Rattle.std.proofs.Common.{List, ℕ, ◌+◌, ◌++◌, ap, sym, drop, string_bytes, arith, refl}
+use Rattle.std.proofs.Common.{List, ℕ, ◌+◌, ◌++◌, ap, sym, drop, string_bytes, arith}
 use Rattle.std.specs.List.{flat_map}
 use Rattle.apl_run.specs.Bytes.{GainsPrefix}
 use Rattle.apl_run.specs.Immediate.{printed}
