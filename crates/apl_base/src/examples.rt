@@ -1,8 +1,9 @@
-ghost use Rattle.std.specs.Prelude.{◌≡◌, ◌-◌, ◌^◌, pos, negsuc, neg_ℤ};
+ghost use Rattle.std.specs.Prelude.{◌≡◌, ◌-◌, ◌^◌, pos, negsuc, neg_ℤ, [], ◌∷◌};
 ghost use Rattle.apl_base.specs.Scalar.{of_number, of_numbers, scalar1, scalar2, identity_of, number};
+ghost use Rattle.apl_base.specs.Interval.{InInterval, IsWithin, hull, exact_interval};
 ghost use Rattle.apl_base.specs.Examples.{character};
 
-use crate::cells::M;
+use crate::cells::{Interval, M};
 use crate::rows::{Dya, Mon};
 
 /// Worked examples of the functions of one number, each at the ends of where it is defined.
@@ -91,4 +92,17 @@ pub fn identity_examples()
         × (identity_of Dya.Ge ≡ Some (pos 1)) }
     ensures ends { (identity_of Dya.Max ≡ Some (neg_ℤ M)) × (identity_of Dya.Min ≡ Some M) }
     ensures none { (identity_of Dya.Nand ≡ None) × (identity_of Dya.Nor ≡ None) }
+{}
+
+/// Worked examples of intervals of cells: what lies in one, the hull with a cell, and the exact one of a list.
+pub fn interval_examples()
+    ensures inside { InInterval (Interval.Span (negsuc 1) (pos 3)) (negsuc 1) × InInterval (Interval.Span (negsuc 1) (pos 3)) (pos 3)
+        × ¬ (InInterval (Interval.Span (negsuc 1) (pos 3)) (pos 4)) × ¬ (InInterval Interval.Empty (pos 0)) }
+    ensures within { IsWithin Interval.Empty (Interval.Span (pos 1) (pos 1)) × IsWithin (Interval.Span (pos 0) (pos 2)) (Interval.Span (negsuc 0) (pos 2))
+        × ¬ (IsWithin (Interval.Span (pos 0) (pos 3)) (Interval.Span (negsuc 0) (pos 2))) }
+    ensures hull { (hull Interval.Empty (pos 5) ≡ Interval.Span (pos 5) (pos 5))
+        × (hull (Interval.Span (pos 1) (pos 3)) (negsuc 0) ≡ Interval.Span (negsuc 0) (pos 3))
+        × (hull (Interval.Span (pos 1) (pos 3)) (pos 2) ≡ Interval.Span (pos 1) (pos 3)) }
+    ensures exact { (exact_interval [] ≡ Interval.Empty)
+        × (exact_interval (pos 4 ∷ negsuc 6 ∷ pos 2 ∷ []) ≡ Interval.Span (negsuc 6) (pos 4)) }
 {}

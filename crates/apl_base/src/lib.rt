@@ -13,7 +13,8 @@ mod shapes;
 
 pub use cells::{Cell, Elem, Interval, Kind, M};
 pub use examples::{
-    arithmetic_examples, character_examples, identity_examples, monadic_examples, truth_examples,
+    arithmetic_examples, character_examples, identity_examples, interval_examples,
+    monadic_examples, truth_examples,
 };
 pub use faults::{Cause, ErrorKind, NoMemory, Place, Refusal, TooLarge};
 pub use laws::{row_major_laws, shape_examples};
