@@ -1,22 +1,22 @@
 //! The calls.
 
-ghost use Rattle.std.specs.Prelude.{◌≡◌};
+ghost use Rattle.std.specs.Prelude.{◌≡◌, false};
 ghost use Rattle.apl_base.specs.declared.rows.Dya.{Dya};
 ghost use Rattle.apl_base.specs.declared.rows.Mon.{Mon};
 ghost use Rattle.apl_base.specs.Scalar.{scalar1, scalar2};
 ghost use Rattle.value_range.specs.declared.sides.Side.{Side};
 ghost use Rattle.apl_base.specs.Interval.{IsInterval};
-ghost use Rattle.value_range.specs.Interval.{ranged1, ranged2};
+ghost use Rattle.value_range.specs.Interval.{row1, at_sides, ranged1, ranged2};
 ghost use Rattle.value_range.specs.Sound.{IsSound1, IsSound2, IsPart, IsSharper};
 
 use crate::rows::one::{
     AbsRow, CeilRow, FactRow, FloorRow, MinusRow, NotRow, PlusRow, RecipRow, SignRow,
 };
+use crate::rows::range_of;
 use crate::rows::two::{
     AddRow, AndRow, DivRow, EqRow, GeRow, GtRow, LeRow, LtRow, MaxRow, MinRow, MulRow, NandRow,
     NeRow, NorRow, OrRow, PowRow, ResidueRow, SubRow,
 };
-use crate::rows::{at_side, at_sides};
 use crate::sides::{Ranged, Side};
 use apl_base::{Dya, Mon};
 
@@ -43,15 +43,18 @@ pub fn range2(f: Dya, a: Side, b: Side) -> Ranged
     dispatch2(f, a, b)
 }
 
-/// The row of a function of one argument.
+/// The row of a function of one argument, which is given as both of its sides.
 fn dispatch1(f: Mon, a: Side) -> Ranged
     requires { IsInterval a.interval }
-    ensures { result ≡ ranged1 f a }
+    ensures exact { result ≡ at_sides false (λ _ _. row1 f) a.kind a.interval a.kind a.interval }
+    ensures interval { IsInterval result.range }
+    ensures sound { IsSound2 (λ _ y. scalar1 f y) a a result }
+    ensures sharper { (wide_a wide_b : Side) → IsInterval wide_a.interval → IsInterval wide_b.interval → IsPart a wide_a → IsPart a wide_b → IsSharper result (at_sides false (λ _ _. row1 f) wide_a.kind wide_a.interval wide_b.kind wide_b.interval) }
 {
     macro_rules! row_of {
         ($($name:ident $row:ident)*) => {
             match f {
-                $(Mon::$name => at_side::<$row>(a),)*
+                $(Mon::$name => range_of::<$row>(a, a),)*
             }
         };
     }
@@ -62,12 +65,15 @@ fn dispatch1(f: Mon, a: Side) -> Ranged
 fn dispatch2(f: Dya, a: Side, b: Side) -> Ranged
     requires left { IsInterval a.interval }
     requires right { IsInterval b.interval }
-    ensures { result ≡ ranged2 f a b }
+    ensures exact { result ≡ ranged2 f a b }
+    ensures interval { IsInterval result.range }
+    ensures sound { IsSound2 (scalar2 f) a b result }
+    ensures sharper { (wide_a wide_b : Side) → IsInterval wide_a.interval → IsInterval wide_b.interval → IsPart a wide_a → IsPart b wide_b → IsSharper result (ranged2 f wide_a wide_b) }
 {
     macro_rules! row_of {
         ($($name:ident $row:ident)*) => {
             match f {
-                $(Dya::$name => at_sides::<$row>(a, b),)*
+                $(Dya::$name => range_of::<$row>(a, b),)*
             }
         };
     }

@@ -5,7 +5,7 @@ ghost use Rattle.apl_base.specs.declared.cells.Elem.{Elem};
 ghost use Rattle.value_range.specs.declared.sides.Side.{Side};
 ghost use Rattle.value_range.specs.declared.sides.Ranged.{Ranged};
 ghost use Rattle.apl_base.specs.Interval.{IsSpan, IsInterval};
-ghost use Rattle.value_range.specs.Interval.{at_side, at_sides};
+ghost use Rattle.value_range.specs.Interval.{at_sides};
 ghost use Rattle.value_range.specs.Sound.{IsSound2, IsPart, IsSharper};
 
 pub mod one;
@@ -42,26 +42,14 @@ pub trait RangeRow {
         requires right { IsSpan right.lo right.hi }
         ensures { result ≡ rule left.lo left.hi right.lo right.hi };
 
+    /// The range is an interval of numbers.
+    ghost interval: { (a b : Side) → IsInterval a.interval → IsInterval b.interval → IsInterval (at_sides CHARACTERS rule a.kind a.interval b.kind b.interval).range };
+
     /// Where the answer is safe, the function is defined at all elements of the sides, with values in the range.
     ghost sound: { (a b : Side) → IsInterval a.interval → IsInterval b.interval → IsSound2 value a b (at_sides CHARACTERS rule a.kind a.interval b.kind b.interval) };
 
     /// Sides that have less give a range within, and keep what is safe.
     ghost sharper: { (a b p q : Side) → IsInterval a.interval → IsInterval b.interval → IsInterval p.interval → IsInterval q.interval → IsPart a p → IsPart b q → IsSharper (at_sides CHARACTERS rule a.kind a.interval b.kind b.interval) (at_sides CHARACTERS rule p.kind p.interval q.kind q.interval) };
-}
-
-/// The row of a function of one argument at its side: an empty side comes before all else, then the kind, then the
-/// row.
-pub fn at_side<R: RangeRow>(side: Side) -> Ranged
-    requires { IsInterval side.interval }
-    ensures { result ≡ at_side (λ a b. R.rule a b a b) side.kind side.interval }
-{
-    match side.interval {
-        Interval::Empty => nothing(),
-        Interval::Span { lo, hi } => match side.kind {
-            Kind::Num => R::at(Ends { lo, hi }, Ends { lo, hi }),
-            Kind::Char => not_safe(),
-        },
-    }
 }
 
 /// A row at two sides: an empty side comes before all else, then the kinds, then the row.
@@ -83,4 +71,16 @@ pub fn at_sides<R: RangeRow>(left: Side, right: Side) -> Ranged
             }
         },
     }
+}
+
+/// The same, with what the laws say of it.
+pub fn range_of<R: RangeRow>(left: Side, right: Side) -> Ranged
+    requires left { IsInterval left.interval }
+    requires right { IsInterval right.interval }
+    ensures exact { result ≡ at_sides R.CHARACTERS R.rule left.kind left.interval right.kind right.interval }
+    ensures interval { IsInterval result.range }
+    ensures sound { IsSound2 R.value left right result }
+    ensures sharper { (wide_left wide_right : Side) → IsInterval wide_left.interval → IsInterval wide_right.interval → IsPart left wide_left → IsPart right wide_right → IsSharper result (at_sides R.CHARACTERS R.rule wide_left.kind wide_left.interval wide_right.kind wide_right.interval) }
+{
+    at_sides::<R>(left, right)
 }

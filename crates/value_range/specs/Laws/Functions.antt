@@ -81,7 +81,7 @@ two1-sharper f a b p q h k l m i j = parts false (λ _ _. row1 f) _ (rule1 f) a 
 -- ---- the rules
 
 -- with the same side on both, as with the side alone
-alone : (row : ℤ → ℤ → Ranged) (k : Kind) (p : Interval) → at_sides false (λ _ _. row) k p k p ≡ at_side row k p
+pub alone : (row : ℤ → ℤ → Ranged) (k : Kind) (p : Interval) → at_sides false (λ _ _. row) k p k p ≡ at_side row k p
 alone row k Empty = refl
 alone row Num (Span a b) = refl
 alone row Char (Span a b) = refl

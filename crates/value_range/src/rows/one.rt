@@ -4,7 +4,7 @@ ghost use Rattle.std.specs.Prelude.{false, true};
 ghost use Rattle.apl_base.specs.declared.rows.Mon.TheVariants as mon;
 ghost use Rattle.apl_base.specs.Scalar.{scalar1};
 ghost use Rattle.value_range.specs.Interval.{row1};
-ghost use Rattle.value_range.specs.Laws.Functions.{two1-sound, two1-sharper};
+ghost use Rattle.value_range.specs.Laws.Functions.{two1-interval, two1-sound, two1-sharper};
 
 use crate::answers::{always, not_safe, safe_where};
 use crate::numbers::{are_truths, factorial, is_only, low_of, most_of};
@@ -20,6 +20,8 @@ impl RangeRow for PlusRow {
     ghost rule = { λ _ _. row1 mon.Plus };
 
     ghost CHARACTERS = { false };
+
+    ghost interval = { two1-interval mon.Plus };
 
     ghost sound = { two1-sound mon.Plus };
 
@@ -42,6 +44,8 @@ impl RangeRow for MinusRow {
 
     ghost CHARACTERS = { false };
 
+    ghost interval = { two1-interval mon.Minus };
+
     ghost sound = { two1-sound mon.Minus };
 
     ghost sharper = { two1-sharper mon.Minus };
@@ -63,6 +67,8 @@ impl RangeRow for SignRow {
 
     ghost CHARACTERS = { false };
 
+    ghost interval = { two1-interval mon.Sign };
+
     ghost sound = { two1-sound mon.Sign };
 
     ghost sharper = { two1-sharper mon.Sign };
@@ -83,6 +89,8 @@ impl RangeRow for RecipRow {
     ghost rule = { λ _ _. row1 mon.Recip };
 
     ghost CHARACTERS = { false };
+
+    ghost interval = { two1-interval mon.Recip };
 
     ghost sound = { two1-sound mon.Recip };
 
@@ -106,6 +114,8 @@ impl RangeRow for CeilRow {
 
     ghost CHARACTERS = { false };
 
+    ghost interval = { two1-interval mon.Ceil };
+
     ghost sound = { two1-sound mon.Ceil };
 
     ghost sharper = { two1-sharper mon.Ceil };
@@ -126,6 +136,8 @@ impl RangeRow for FloorRow {
     ghost rule = { λ _ _. row1 mon.Floor };
 
     ghost CHARACTERS = { false };
+
+    ghost interval = { two1-interval mon.Floor };
 
     ghost sound = { two1-sound mon.Floor };
 
@@ -148,6 +160,8 @@ impl RangeRow for AbsRow {
 
     ghost CHARACTERS = { false };
 
+    ghost interval = { two1-interval mon.Abs };
+
     ghost sound = { two1-sound mon.Abs };
 
     ghost sharper = { two1-sharper mon.Abs };
@@ -169,6 +183,8 @@ impl RangeRow for NotRow {
 
     ghost CHARACTERS = { false };
 
+    ghost interval = { two1-interval mon.Not };
+
     ghost sound = { two1-sound mon.Not };
 
     ghost sharper = { two1-sharper mon.Not };
@@ -189,6 +205,8 @@ impl RangeRow for FactRow {
     ghost rule = { λ _ _. row1 mon.Fact };
 
     ghost CHARACTERS = { false };
+
+    ghost interval = { two1-interval mon.Fact };
 
     ghost sound = { two1-sound mon.Fact };
 

@@ -4,7 +4,7 @@ ghost use Rattle.std.specs.Prelude.{false, true};
 ghost use Rattle.apl_base.specs.declared.rows.Dya.TheVariants as dya;
 ghost use Rattle.apl_base.specs.Scalar.{scalar2};
 ghost use Rattle.value_range.specs.Interval.{row2};
-ghost use Rattle.value_range.specs.Laws.Functions.{ranged2-sound, ranged2-sharper};
+ghost use Rattle.value_range.specs.Laws.Functions.{ranged2-interval, ranged2-sound, ranged2-sharper};
 
 use crate::answers::{always, not_safe, safe_where, safe_within};
 use crate::numbers::{
@@ -22,6 +22,8 @@ impl RangeRow for AddRow {
     ghost rule = { row2 dya.Add };
 
     ghost CHARACTERS = { false };
+
+    ghost interval = { ranged2-interval dya.Add };
 
     ghost sound = { ranged2-sound dya.Add };
 
@@ -44,6 +46,8 @@ impl RangeRow for SubRow {
 
     ghost CHARACTERS = { false };
 
+    ghost interval = { ranged2-interval dya.Sub };
+
     ghost sound = { ranged2-sound dya.Sub };
 
     ghost sharper = { ranged2-sharper dya.Sub };
@@ -64,6 +68,8 @@ impl RangeRow for MulRow {
     ghost rule = { row2 dya.Mul };
 
     ghost CHARACTERS = { false };
+
+    ghost interval = { ranged2-interval dya.Mul };
 
     ghost sound = { ranged2-sound dya.Mul };
 
@@ -98,6 +104,8 @@ impl RangeRow for DivRow {
 
     ghost CHARACTERS = { false };
 
+    ghost interval = { ranged2-interval dya.Div };
+
     ghost sound = { ranged2-sound dya.Div };
 
     ghost sharper = { ranged2-sharper dya.Div };
@@ -122,6 +130,8 @@ impl RangeRow for PowRow {
     ghost rule = { row2 dya.Pow };
 
     ghost CHARACTERS = { false };
+
+    ghost interval = { ranged2-interval dya.Pow };
 
     ghost sound = { ranged2-sound dya.Pow };
 
@@ -153,6 +163,8 @@ impl RangeRow for MaxRow {
 
     ghost CHARACTERS = { false };
 
+    ghost interval = { ranged2-interval dya.Max };
+
     ghost sound = { ranged2-sound dya.Max };
 
     ghost sharper = { ranged2-sharper dya.Max };
@@ -174,6 +186,8 @@ impl RangeRow for MinRow {
 
     ghost CHARACTERS = { false };
 
+    ghost interval = { ranged2-interval dya.Min };
+
     ghost sound = { ranged2-sound dya.Min };
 
     ghost sharper = { ranged2-sharper dya.Min };
@@ -194,6 +208,8 @@ impl RangeRow for ResidueRow {
     ghost rule = { row2 dya.Residue };
 
     ghost CHARACTERS = { false };
+
+    ghost interval = { ranged2-interval dya.Residue };
 
     ghost sound = { ranged2-sound dya.Residue };
 
@@ -220,6 +236,8 @@ impl RangeRow for AndRow {
 
     ghost CHARACTERS = { false };
 
+    ghost interval = { ranged2-interval dya.And };
+
     ghost sound = { ranged2-sound dya.And };
 
     ghost sharper = { ranged2-sharper dya.And };
@@ -241,6 +259,8 @@ impl RangeRow for OrRow {
     ghost rule = { row2 dya.Or };
 
     ghost CHARACTERS = { false };
+
+    ghost interval = { ranged2-interval dya.Or };
 
     ghost sound = { ranged2-sound dya.Or };
 
@@ -264,6 +284,8 @@ impl RangeRow for NandRow {
 
     ghost CHARACTERS = { false };
 
+    ghost interval = { ranged2-interval dya.Nand };
+
     ghost sound = { ranged2-sound dya.Nand };
 
     ghost sharper = { ranged2-sharper dya.Nand };
@@ -285,6 +307,8 @@ impl RangeRow for NorRow {
     ghost rule = { row2 dya.Nor };
 
     ghost CHARACTERS = { false };
+
+    ghost interval = { ranged2-interval dya.Nor };
 
     ghost sound = { ranged2-sound dya.Nor };
 
@@ -308,6 +332,8 @@ impl RangeRow for LtRow {
 
     ghost CHARACTERS = { false };
 
+    ghost interval = { ranged2-interval dya.Lt };
+
     ghost sound = { ranged2-sound dya.Lt };
 
     ghost sharper = { ranged2-sharper dya.Lt };
@@ -328,6 +354,8 @@ impl RangeRow for LeRow {
     ghost rule = { row2 dya.Le };
 
     ghost CHARACTERS = { false };
+
+    ghost interval = { ranged2-interval dya.Le };
 
     ghost sound = { ranged2-sound dya.Le };
 
@@ -350,6 +378,8 @@ impl RangeRow for EqRow {
 
     ghost CHARACTERS = { true };
 
+    ghost interval = { ranged2-interval dya.Eq };
+
     ghost sound = { ranged2-sound dya.Eq };
 
     ghost sharper = { ranged2-sharper dya.Eq };
@@ -370,6 +400,8 @@ impl RangeRow for GeRow {
     ghost rule = { row2 dya.Ge };
 
     ghost CHARACTERS = { false };
+
+    ghost interval = { ranged2-interval dya.Ge };
 
     ghost sound = { ranged2-sound dya.Ge };
 
@@ -392,6 +424,8 @@ impl RangeRow for GtRow {
 
     ghost CHARACTERS = { false };
 
+    ghost interval = { ranged2-interval dya.Gt };
+
     ghost sound = { ranged2-sound dya.Gt };
 
     ghost sharper = { ranged2-sharper dya.Gt };
@@ -412,6 +446,8 @@ impl RangeRow for NeRow {
     ghost rule = { row2 dya.Ne };
 
     ghost CHARACTERS = { true };
+
+    ghost interval = { ranged2-interval dya.Ne };
 
     ghost sound = { ranged2-sound dya.Ne };
 
