@@ -1,27 +1,26 @@
 -- Whether tokens are a line of the language can be decided: the reader gives the only tree that there may be.
-use Rattle.std.proofs.Common.{◌≡◌, ℕ, zero, suc, ◌<◌, ◌≤◌, ◌^◌, ◌==◌, Bool, true, false, cond, List, [], ◌∷◌, length, Option, None, Some, ◌⊎◌, inl, inr, refl, sym, ap, subst, ◌∙◌, ℤ, pos, arith, leb-true, ltb-true}
+use Rattle.std.proofs.Common.{◌≡◌, ℕ, ◌<◌, ◌≤◌, ◌^◌, ◌==◌, Bool, true, false, List, [], ◌∷◌, length, Option, None, Some, ◌⊎◌, inl, inr, refl, ap, subst, ℤ, pos, arith}
 use Rattle.std.specs.Bool.{Decides}
-use Rattle.std.specs.Option.{option_map, IsSome}
+use Rattle.std.specs.Option.{IsSome}
 use Rattle.std.specs.List.{AllByRecursion}
-use Rattle.std.specs.Char.{IsScalar}
 use Rattle.std.specs.Ordering.{int_eq}
 use Rattle.std.proofs.lemmas.Bool.Decides.{Decides-eqb, Decides-int_eq, Decides-ltb}
 use lib.Signed.{◌≤ℤ◌, le_z}
 use lib.Dec.{T}
 use Rattle.std.specs.Prelude.{negsuc, neg_ℤ, nat_lt, IsTrue}
-use Rattle.apl_base.specs.Number.{IsNumber, IsCharacter, IsCell}
+use Rattle.apl_base.specs.Number.{IsNumber, IsCell}
 use Rattle.apl_base.specs.declared.cells.TheConstants.{M}
 use Rattle.apl_base.specs.declared.cells.Kind.{Kind}
 use Rattle.apl_base.specs.declared.cells.Kind.TheVariants as kind
 use Rattle.apl_base.specs.declared.faults.Place.{Place}
 use Rattle.apl_model.proofs.Complete.{read_complete}
 use Rattle.apl_model.proofs.Machine.{read}
-use Rattle.apl_model.proofs.Unique.{one_statement, token_words, command_read, command_complete, header_read, header_complete, same_words, no_label}
-use Rattle.apl_model.specs.Characters.{code, is_name}
-use Rattle.apl_model.specs.Grammar.{arguments_of, IsVariable, IsFunction, IsFilled, IsLiteral, IsAxis, IsMonadic, IsDyadic, IsOperand, HasPosition, IsExpression, ArePositions, IsPosition, IsStatement, AreNames, IsOptionalName, IsCommand, IsHeader}
+use Rattle.apl_model.proofs.Unique.{token_words, command_read, command_complete, header_read, header_complete, same_words, no_label}
+use Rattle.apl_model.specs.Characters.{is_name}
+use Rattle.apl_model.specs.Grammar.{arguments_of, IsVariable, IsFunction, IsFilled, IsLiteral, IsAxis, IsMonadic, IsDyadic, IsOperand, HasPosition, IsExpression, ArePositions, IsStatement, IsOptionalName, IsCommand, IsHeader}
 use Rattle.apl_model.specs.Refusal.{LineKind, outside, in_body, first_line, by_itself, IsLawful}
 use Rattle.apl_model.specs.Spelling.{Mark, at, some, glyph, statement_spelling, body_spelling, command_spelling, header_spelling, Fits, Spell}
-use Rattle.apl_model.specs.Tree.{Tree, constant, variable, call, parenthesis, monadic, dyadic, reduction, outer_product, inner_product, subscript, assignment, indexed_assignment, output, Slot, elided, given, Positions, no_position, position, Statement, nothing, branch, expression}
+use Rattle.apl_model.specs.Tree.{Tree, constant, variable, call, parenthesis, monadic, dyadic, reduction, outer_product, inner_product, subscript, assignment, indexed_assignment, output, elided, given, Positions, no_position, position, Statement, nothing, branch, expression}
 use Rattle.apl_model.specs.declared.functions.Axis.{Axis}
 use Rattle.apl_model.specs.declared.functions.Axis.TheVariants as axis
 use Rattle.apl_model.specs.declared.functions.DyaFn.{DyaFn}
@@ -97,8 +96,9 @@ list_known k [] [] = inl refl
 list_known k [] (y ∷ ys) = inr (λ e. cc)
 list_known k (x ∷ xs) [] = inr (λ e. cc)
 list_known k (x ∷ xs) (y ∷ ys) = elim (k x y) [
-    inl e ↦ elim (list_known k xs ys) [ inl f ↦ inl (λ i. e i ∷ f i) | inr n ↦ inr (λ g. n (let h : xs ≡ ys = cc in h)) ]
-  | inr n ↦ inr (λ g. n (let h : x ≡ y = cc in h)) ]
+  | inl e ↦ elim (list_known k xs ys) [ inl f ↦ inl (λ i. e i ∷ f i) | inr n ↦ inr (λ g. n (let h : xs ≡ ys = cc in h)) ]
+  | inr n ↦ inr (λ g. n (let h : x ≡ y = cc in h))
+]
 
 pub all_known : {A : Type 0} (P : A → Type 0) → ((x : A) → Known (P x)) → (xs : List A) → Known (AllByRecursion P xs)
 all_known P k [] = inl tt
@@ -249,8 +249,9 @@ module _ (hs : List Heading) where
 pub by_candidate : {A : Type 0} (P : A → Type 0) (r : Option A) → ((a : A) → P a → r ≡ Some a) → ((a : A) → Known (P a)) → Known ((a : A) × P a)
 by_candidate P None e k = inr (λ x. let f = e x.0 x.1 in cc)
 by_candidate P (Some a) e k = elim (k a) [
-    inl p ↦ inl (a, p)
-  | inr n ↦ inr (λ x. let f = e x.0 x.1 in let g : x.0 ≡ a = cc in n (subst P g x.1)) ]
+  | inl p ↦ inl (a, p)
+  | inr n ↦ inr (λ x. let f = e x.0 x.1 in let g : x.0 ≡ a = cc in n (subst P g x.1))
+]
 
 pub statement_line_known : (hs : List Heading) (n : ℕ) (ts : List Token) → Known ((s : Statement) × (IsStatement hs s × Spell n (statement_spelling s) ts))
 statement_line_known hs n ts = by_candidate (λ s. IsStatement hs s × Spell n (statement_spelling s) ts) (read hs n ts)
@@ -320,8 +321,9 @@ pub body_known : (hs : List Heading) (n : ℕ) (ts : List Token) → Known (IsLa
 body_known hs n [] = unlabelled hs n [] (λ l s x. x)
 body_known hs n (t ∷ []) = unlabelled hs n (t ∷ []) (λ l s x. x.1)
 body_known hs n (t ∷ u ∷ ts) = elim (label_known t.word u.word) [
-    inl x ↦ labelled hs n t u ts x.0 x.1 x.2
-  | inr no' ↦ unlabelled hs n (t ∷ u ∷ ts) (λ l s x. no' (l, x.0, x.1.0)) ]
+  | inl x ↦ labelled hs n t u ts x.0 x.1 x.2
+  | inr no' ↦ unlabelled hs n (t ∷ u ∷ ts) (λ l s x. no' (l, x.0, x.1.0))
+]
 
 flat : {A : Type 0} {P Q : A → Type 0} → Known ((a : A) × (P a × Q a)) → Known ((a : A) × P a × Q a)
 flat k = like (λ x. (x.0, x.1.0, x.1.1)) (λ x. (x.0, (x.1, x.2))) k

@@ -4,3 +4,4 @@ pub mod Complete
 pub mod Unique
 pub mod Order
 pub mod Decide
+pub mod Accepted

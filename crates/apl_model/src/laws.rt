@@ -1,5 +1,5 @@
 //! What holds of the definitions. Each function does nothing: its contract is a law.
-ghost use Rattle.apl_model.specs.Laws.{OneListOfTokens, OneExpression, OneStatement, OneBodyLine, OneCommand, OneHeader, OneScript, OneFirstRefusal, OneFirstReadingRefusal, OneFirstLineRefusal};
+ghost use Rattle.apl_model.specs.Laws.{OneListOfTokens, OneExpression, OneStatement, OneBodyLine, OneCommand, OneHeader, OneScript, OneFirstRefusal, OneFirstReadingRefusal, OneFirstLineRefusal, AcceptedExactly};
 
 /// A line has at most one list of tokens.
 pub fn one_list_of_tokens()
@@ -49,4 +49,9 @@ pub fn one_first_reading_refusal()
 /// The definitions, names and statements of a script have at most one first refusal.
 pub fn one_first_line_refusal()
     ensures { OneFirstLineRefusal }
+{}
+
+/// A script of bytes is accepted exactly where it has no refusal.
+pub fn accepted_exactly()
+    ensures { AcceptedExactly }
 {}

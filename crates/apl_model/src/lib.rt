@@ -14,8 +14,9 @@ mod trees;
 pub use examples::{tokens_of_ten_lines, trees_of_fifteen_lines};
 pub use functions::{Axis, DyaFn, MonFn};
 pub use laws::{
-    one_body_line, one_command, one_expression, one_first_line_refusal, one_first_reading_refusal,
-    one_first_refusal, one_header, one_list_of_tokens, one_script, one_statement,
+    accepted_exactly, one_body_line, one_command, one_expression, one_first_line_refusal,
+    one_first_reading_refusal, one_first_refusal, one_header, one_list_of_tokens, one_script,
+    one_statement,
 };
 pub use outlines::{Outline, OutlineBody, OutlineItem, OutlineLine};
 pub use scripts::{BodyLine, Command, Definition, Header, Script, ScriptItem};
