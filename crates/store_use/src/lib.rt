@@ -1,13 +1,15 @@
 //! Uses of the store, proved from its public clauses alone.
 #![tactic(auto)]
 
-ghost use Rattle.std.specs.Prelude.{◌≡◌, ◌≢◌, ℕ, ◌+◌, ◌<◌, ◌≤◌, length, slice_set, slice_index_or, pos, All, Some, IfOk, OnErr, vec_len};
-ghost use Rattle.apl_base.specs.declared.cells.Kind.TheVariants as kind;
+ghost use Rattle.std.specs.Prelude.{◌≡◌, ℕ, ◌+◌, ◌<◌, ◌≤◌, length, slice_index_or, pos, All, IfOk, OnErr, vec_len};
 ghost use Rattle.apl_base.specs.Number.{IsNumber};
 ghost use Rattle.array_store.specs.Stores.{owner_at, counted};
 
 use apl_base::{Cell, Kind, NoMemory};
-use array_store::{OwnerId, Store};
+use array_store::Store;
+
+#[cfg(test)]
+mod tests;
 
 /// Takes cells in, holds them twice and once again, writes one through the one holder, reads it back and lets
 /// go. The store ends as it began, but for what it counted.
@@ -37,4 +39,39 @@ pub fn written_and_let_go(
     let read = store.fetch(owner, place);
     store.release(owner);
     Ok(read)
+}
+
+/// Two owners side by side: the first is held twice while a cell of the other is written through its one holder.
+/// A read of the first gives its own cell, and one of the other the cell written. Both go with their last holder.
+pub fn side_by_side(
+    store: &mut Store,
+    left: Vec<Cell>,
+    right: Vec<Cell>,
+    place: u64,
+    cell: Cell,
+) -> Result<(Cell, Cell), NoMemory>
+    requires room { store.old.live + vec_len left + vec_len right ≤ store.old.limit }
+    requires left_lawful { All IsNumber left.items }
+    requires right_lawful { All IsNumber right.items }
+    requires in_left { place < vec_len left }
+    requires in_right { place < vec_len right }
+    requires number { IsNumber cell }
+    ensures left { IfOk result (λ read. read.0 ≡ slice_index_or left.items place (pos 0)) }
+    ensures right { IfOk result (λ read. read.1 ≡ cell) }
+    ensures owners { (key : ℕ) → owner_at store.new key ≡ owner_at store.old key }
+    ensures live { store.new.live ≡ store.old.live }
+{
+    let first = store.make(left, Kind::Num)?;
+    let Ok(second) = store.make(right, Kind::Num) else {
+        store.release(first);
+        return Err(NoMemory);
+    };
+    store.hold(first);
+    store.write(second, place, cell);
+    store.release(first);
+    let kept = store.fetch(first, place);
+    let written = store.fetch(second, place);
+    store.release(first);
+    store.release(second);
+    Ok((kept, written))
 }
