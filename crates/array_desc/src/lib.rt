@@ -3,9 +3,11 @@
 
 mod desc;
 mod diagonals;
+mod laws;
 mod lists;
 mod parts;
 mod selections;
 mod steps;
 
 pub use desc::Desc;
+pub use laws::{determined, worked_numbers};
