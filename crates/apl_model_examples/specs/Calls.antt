@@ -4,7 +4,8 @@ use Rattle.apl_base.specs.declared.rows.Dya.TheVariants as dya
 use Rattle.apl_model.specs.declared.functions.Axis.TheVariants as axis
 use Rattle.apl_model.specs.declared.functions.DyaFn.TheVariants as two
 use Rattle.apl_model.specs.declared.functions.MonFn.TheVariants as one
-use Rattle.apl_model.specs.Tree.{Script, parenthesis, monadic, dyadic, reduction, elided, given, branch, expression, statement_item}
+use Rattle.apl_model.specs.declared.scripts.Command.TheVariants.{Fns}
+use Rattle.apl_model.specs.Tree.{Script, parenthesis, monadic, dyadic, reduction, elided, given, branch, expression, statement_item, command_item}
 use Rattle.apl_model_examples.specs.Words.{script, at, number, numbers, text, name, calls, sets, writes, positions, label, unlabelled, body_line, header, definition}
 
 -- a call writes a global name; the value to its right keeps what the name had
@@ -72,6 +73,19 @@ a_loop_without_end = script ("∇F" ∷ "L:→L" ∷ "∇" ∷ "F" ∷ [])
     (body_line 2 (label "L") (branch (name "L" (at 2 4)) (at 2 3))
     ∷ [])
     ∷ statement_item 4 (expression (calls "F" elided elided (at 4 1)))
+    ∷ [])
+
+-- with no turn at all no statement is begun
+abbrev pub no_turn_at_all : Script
+no_turn_at_all = script ("2+3" ∷ [])
+    (statement_item 1 (expression (dyadic (two.Scalar dya.Add) (number 2 (at 1 1)) (number 3 (at 1 3)) (at 1 2)))
+    ∷ [])
+
+-- commands and definitions take no turn, nor do lines without tokens
+abbrev pub commands_and_definitions_take_no_turn : Script
+commands_and_definitions_take_no_turn = script ("" ∷ "∇F" ∷ "∇" ∷ ")FNS" ∷ "⍝ 2+3" ∷ [])
+    (definition 2 3 (header None None "F" None []) []
+    ∷ command_item 4 Fns
     ∷ [])
 
 -- a branch to a character is a DOMAIN ERROR

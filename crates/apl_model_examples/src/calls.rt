@@ -14,6 +14,8 @@ pub fn examples_of_calls()
     ensures fifteen_turns_are_enough { RunsWithin 15 script.a_loop_adds_up "10\n" well [] }
     ensures fourteen_turns_are_too_few { RunsWithin 14 script.a_loop_adds_up "" out_of_turns [] }
     ensures a_loop_without_end { RunsWithin 10 script.a_loop_without_end "" out_of_turns [] }
+    ensures no_turn_at_all { RunsWithin 0 script.no_turn_at_all "" out_of_turns [] }
+    ensures commands_and_definitions_take_no_turn { RunsWithin 0 script.commands_and_definitions_take_no_turn "F\n" well [] }
     ensures a_branch_to_a_character { Runs script.a_branch_to_a_character "DOMAIN ERROR\n      →'A'\n      ^\n" reported [] }
     ensures a_call_too_deep { Runs script.a_call_too_deep "DEPTH ERROR\nF[1] F\n     ^\n" reported [] }
     ensures a_call_without_a_result { Runs script.a_call_without_a_result "VALUE ERROR\n      1+F 2\n        ^\n" reported [] }

@@ -30,6 +30,14 @@ pub returns-clause-a_loop_without_end : goal.returns-clause-a_loop_without_end
 unfolding digits
 returns-clause-a_loop_without_end c = refl
 
+pub returns-clause-no_turn_at_all : goal.returns-clause-no_turn_at_all
+unfolding digits
+returns-clause-no_turn_at_all c = refl
+
+pub returns-clause-commands_and_definitions_take_no_turn : goal.returns-clause-commands_and_definitions_take_no_turn
+unfolding digits
+returns-clause-commands_and_definitions_take_no_turn c = refl
+
 pub returns-clause-a_branch_to_a_character : goal.returns-clause-a_branch_to_a_character
 unfolding digits
 returns-clause-a_branch_to_a_character c = refl
