@@ -1,13 +1,15 @@
 -- The words in which the examples are written: the lines of a script, its trees, and what comes of it.
-use Rattle.std.specs.Prelude.{◌≡◌, ℕ, suc, ℤ, pos, neg_ℤ, List, [], ◌∷◌, Option, Some, None, map, length, codes, encode_utf8_all}
+use Rattle.std.specs.Prelude.{◌≡◌, ℕ, ℤ, pos, neg_ℤ, List, [], ◌∷◌, Option, Some, None, map, length, codes, encode_utf8_all}
+use Rattle.std.specs.List.{AllByRecursion}
 use Prim.Native.String.{String}
 use Rattle.apl_base.specs.declared.cells.Kind.TheVariants.{Num, Char}
 use Rattle.apl_base.specs.declared.faults.Place.{Place}
 use Rattle.apl_base.specs.Array.{Array}
 use Rattle.apl_model.specs.declared.scripts.Header.{Header}
-use Rattle.apl_model.specs.declared.tokens.Line.{Line}
 use Rattle.apl_model.specs.Environment.{Bindings}
 use Rattle.apl_model.specs.Immediate.{immediate, Immediate, Ending}
+use Rattle.apl_model.specs.Lines.{numbered}
+use Rattle.apl_model.specs.Script.{IsScript}
 use Rattle.apl_model.specs.Tree.{Script, Item, Tree, Slot, Positions, Statement, BodyLine, constant, variable, call, assignment, indexed_assignment, no_position, position, definition_item}
 use Rattle.apl_model.specs.Whole.{scalar, vector}
 
@@ -72,14 +74,13 @@ header result left f right locals = record { f = codes f; result = result; left 
 abbrev pub definition : ℕ → ℕ → Header → List BodyLine → Item
 definition opened closed header body = definition_item (record { opened = opened; closed = closed; header = header; body = body })
 
--- the lines with these texts, numbered from n
-abbrev pub lines_from : ℕ → List String → List Line
-lines_from n [] = []
-lines_from n (t ∷ ts) = record { number = n; text = codes t; tokens = [] } ∷ lines_from (suc n) ts
-
 -- a script: the texts of its lines, and its items
 abbrev pub script : List String → List Item → Script
-script texts items = record { lines = lines_from 1 texts; items = items }
+script texts items = record { lines = numbered 1 (map codes texts); items = items }
+
+-- in each of these scripts the items are what the texts of the lines say
+abbrev pub AreTheirTexts : List Script → Type 0
+AreTheirTexts scripts = AllByRecursion (λ s. IsScript s.lines s) scripts
 
 -- ---- variables that are left
 

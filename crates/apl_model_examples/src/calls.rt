@@ -2,10 +2,23 @@
 ghost use Rattle.std.specs.Prelude.{◌≡◌, ◌∷◌, []};
 ghost use Rattle.apl_model.specs.Immediate.{well, reported, out_of_turns};
 ghost use Rattle.apl_model_examples.specs.Calls as script;
-ghost use Rattle.apl_model_examples.specs.Words.{Runs, RunsWithin, is_set, number_vector, statements_ended};
+ghost use Rattle.apl_model_examples.specs.Words.{AreTheirTexts, Runs, RunsWithin, is_set, number_vector, statements_ended};
 
 /// Calls and turns: worked examples.
 pub fn examples_of_calls()
+    // the trees are those of the lines
+    ensures trees { AreTheirTexts
+        (script.a_call_writes_a_global
+        ∷ script.the_average_of_three_numbers
+        ∷ script.a_name_is_that_of_the_innermost_call
+        ∷ script.a_loop_adds_up
+        ∷ script.a_loop_without_end
+        ∷ script.no_turn_at_all
+        ∷ script.commands_and_definitions_take_no_turn
+        ∷ script.a_branch_to_a_character
+        ∷ script.a_call_too_deep
+        ∷ script.a_call_without_a_result
+        ∷ []) }
     ensures a_call_writes_a_global { Runs script.a_call_writes_a_global
         "10 20\n9 2\n" well (is_set "A" (number_vector (9 ∷ 2 ∷ [])) ∷ []) }
     ensures the_average_of_three_numbers { Runs script.the_average_of_three_numbers "4\n" well [] }

@@ -2,10 +2,22 @@
 ghost use Rattle.std.specs.Prelude.{◌∷◌, []};
 ghost use Rattle.apl_model.specs.Immediate.{well, reported};
 ghost use Rattle.apl_model_examples.specs.Products as script;
-ghost use Rattle.apl_model_examples.specs.Words.{Runs, is_set, number_table};
+ghost use Rattle.apl_model_examples.specs.Words.{AreTheirTexts, Runs, is_set, number_table};
 
 /// Reductions and products: worked examples.
 pub fn examples_of_products()
+    // the trees are those of the lines
+    ensures trees { AreTheirTexts
+        (script.a_reduction_goes_from_the_right
+        ∷ script.an_empty_axis_gives_the_identity
+        ∷ script.a_missing_identity
+        ∷ script.a_missing_identity_of_no_elements
+        ∷ script.a_reduction_along_the_first_axis
+        ∷ script.no_third_axis
+        ∷ script.a_product_of_two_tables
+        ∷ script.a_table_of_products
+        ∷ script.sales_by_quarter
+        ∷ []) }
     ensures a_reduction_goes_from_the_right { Runs script.a_reduction_goes_from_the_right
         "¯1000000000000000000000000000000000000\n¯2\n" well [] }
     ensures an_empty_axis_gives_the_identity { Runs script.an_empty_axis_gives_the_identity "0 0\n" well [] }

@@ -2,10 +2,25 @@
 ghost use Rattle.std.specs.Prelude.{◌∷◌, []};
 ghost use Rattle.apl_model.specs.Immediate.{well, reported};
 ghost use Rattle.apl_model_examples.specs.Scalars as script;
-ghost use Rattle.apl_model_examples.specs.Words.{Runs, is_set, number_vector};
+ghost use Rattle.apl_model_examples.specs.Words.{AreTheirTexts, Runs, is_set, number_vector};
 
 /// Scalar functions: worked examples.
 pub fn examples_of_scalars()
+    // the trees are those of the lines
+    ensures trees { AreTheirTexts
+        (script.a_residue_has_the_sign_of_its_base
+        ∷ script.a_text_is_compared_character_by_character
+        ∷ script.a_character_has_no_sum
+        ∷ script.the_greatest_factorial
+        ∷ script.no_greater_factorial
+        ∷ script.the_greatest_number_is_a_product
+        ∷ script.no_sum_beyond_the_greatest_number
+        ∷ script.a_great_element_is_doubled
+        ∷ script.an_element_that_is_not_taken_fails_all
+        ∷ script.unequal_lengths
+        ∷ script.unequal_lengths_of_a_name
+        ∷ script.unequal_ranks
+        ∷ []) }
     ensures a_residue_has_the_sign_of_its_base { Runs script.a_residue_has_the_sign_of_its_base "2 1\n1\n1\n5\n" well [] }
     ensures a_text_is_compared_character_by_character { Runs script.a_text_is_compared_character_by_character "1 0\n" well [] }
     ensures a_character_has_no_sum { Runs script.a_character_has_no_sum "DOMAIN ERROR\n      'A'+1\n         ^\n" reported [] }

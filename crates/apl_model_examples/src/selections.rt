@@ -2,10 +2,17 @@
 ghost use Rattle.std.specs.Prelude.{◌∷◌, []};
 ghost use Rattle.apl_model.specs.Immediate.{well, reported};
 ghost use Rattle.apl_model_examples.specs.Selections as script;
-ghost use Rattle.apl_model_examples.specs.Words.{Runs, is_set, number_table, number_vector};
+ghost use Rattle.apl_model_examples.specs.Words.{AreTheirTexts, Runs, is_set, number_table, number_vector};
 
 /// Selections: worked examples.
 pub fn examples_of_selections()
+    // the trees are those of the lines
+    ensures trees { AreTheirTexts
+        (script.axes_that_fall_together_give_the_diagonal
+        ∷ script.a_selection_keeps_an_error
+        ∷ script.a_transpose_keeps_its_value
+        ∷ script.a_reversal_keeps_its_value
+        ∷ []) }
     ensures axes_that_fall_together_give_the_diagonal { Runs script.axes_that_fall_together_give_the_diagonal "1 5\n" well [] }
     ensures a_selection_keeps_an_error { Runs script.a_selection_keeps_an_error
         "DOMAIN ERROR\n      2↑6÷1 2 0\n         ^\n" reported [] }

@@ -2,10 +2,21 @@
 ghost use Rattle.std.specs.Prelude.{◌∷◌, []};
 ghost use Rattle.apl_model.specs.Immediate.{well, reported};
 ghost use Rattle.apl_model_examples.specs.Subscripts as script;
-ghost use Rattle.apl_model_examples.specs.Words.{Runs, is_set, number_scalar, number_table, number_vector};
+ghost use Rattle.apl_model_examples.specs.Words.{AreTheirTexts, Runs, is_set, number_scalar, number_table, number_vector};
 
 /// Subscripts and replacements: worked examples.
 pub fn examples_of_subscripts()
+    // the trees are those of the lines
+    ensures trees { AreTheirTexts
+        (script.a_row_a_column_and_a_corner
+        ∷ script.positions_in_any_order
+        ∷ script.a_position_beyond_the_length
+        ∷ script.a_write_leaves_earlier_values_alone
+        ∷ script.a_write_of_the_array_itself
+        ∷ script.the_last_write_to_a_place_stays
+        ∷ script.one_element_is_a_value_of_its_own
+        ∷ script.a_write_to_an_unset_name
+        ∷ []) }
     ensures a_row_a_column_and_a_corner { Runs script.a_row_a_column_and_a_corner
         "4 5 6\n2 1\n5 4\n3\n6\n"
         well (is_set "A" (number_table 2 3 (1 ∷ 2 ∷ 3 ∷ 4 ∷ 5 ∷ 6 ∷ [])) ∷ []) }

@@ -2,10 +2,20 @@
 ghost use Rattle.std.specs.Prelude.{◌∷◌, []};
 ghost use Rattle.apl_model.specs.Immediate.{well};
 ghost use Rattle.apl_model_examples.specs.Sums as script;
-ghost use Rattle.apl_model_examples.specs.Words.{Runs, is_set, number_scalar, number_vector};
+ghost use Rattle.apl_model_examples.specs.Words.{AreTheirTexts, Runs, is_set, number_scalar, number_vector};
 
 /// Sums and names: worked examples.
 pub fn examples_of_sums()
+    // the trees are those of the lines
+    ensures trees { AreTheirTexts
+        (script.two_numbers_are_added
+        ∷ script.an_empty_script_prints_nothing
+        ∷ script.equal_lengths_go_pairwise
+        ∷ script.the_right_argument_comes_first
+        ∷ script.an_assignment_leaves_earlier_values_alone
+        ∷ script.an_assignment_prints_in_parentheses_alone
+        ∷ script.an_output_prints_its_value_once
+        ∷ []) }
     ensures two_numbers_are_added { Runs script.two_numbers_are_added "5\n" well [] }
     ensures an_empty_script_prints_nothing { Runs script.an_empty_script_prints_nothing "" well [] }
     ensures equal_lengths_go_pairwise { Runs script.equal_lengths_go_pairwise

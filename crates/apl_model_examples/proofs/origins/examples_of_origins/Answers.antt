@@ -1,6 +1,10 @@
 use Rattle.std.specs.Prelude.{refl}
+use Rattle.apl_model_examples.proofs.Sizes.{nothing_fits, one_fits, two_fit, three_fit, four_fit, one_is_some, two_are_some, three_are_some, four_are_some, from_0, from_1}
 use Rattle.std.specs.Fmt.{digits}
 use Rattle.apl_model_examples.proofs.origins.examples_of_origins.Goals as goal
+
+pub returns-clause-trees : goal.returns-clause-trees
+returns-clause-trees c = assumption (nothing_fits, one_fits, two_fit, three_fit, four_fit, one_is_some, two_are_some, three_are_some, four_are_some, from_0, from_1)
 
 pub returns-clause-places_count_from_the_origin : goal.returns-clause-places_count_from_the_origin
 unfolding digits

@@ -1,6 +1,10 @@
 use Rattle.std.specs.Prelude.{refl}
+use Rattle.apl_model_examples.proofs.Sizes.{nothing_fits, one_fits, two_fit, three_fit, four_fit, one_is_some, two_are_some, three_are_some, four_are_some}
 use Rattle.std.specs.Fmt.{digits}
 use Rattle.apl_model_examples.proofs.subscripts.examples_of_subscripts.Goals as goal
+
+pub returns-clause-trees : goal.returns-clause-trees
+returns-clause-trees c = assumption (nothing_fits, one_fits, two_fit, three_fit, four_fit, one_is_some, two_are_some, three_are_some, four_are_some)
 
 pub returns-clause-a_row_a_column_and_a_corner : goal.returns-clause-a_row_a_column_and_a_corner
 unfolding digits
