@@ -11,3 +11,4 @@ pub mod ReadingRows
 pub mod DefinitionRows
 pub mod DepthRow
 pub mod ClassRow
+pub mod AcceptedItems

@@ -1,5 +1,5 @@
 -- Which items of a script are well formed. Texts, tokens, columns and depth of the lines are not asked.
-use Rattle.std.specs.Prelude.{◌≡◌, List, [], ◌∷◌, ◌++◌, None, ℕ, map}
+use Rattle.std.specs.Prelude.{◌≡◌, ◌⊎◌, List, [], ◌∷◌, ◌++◌, None, ℕ, map}
 use Rattle.std.specs.List.{AllByRecursion, IsDistinct}
 use Rattle.std.specs.Option.{option_to_list}
 use Rattle.apl_model.specs.Environment.{is_same_name}
@@ -18,21 +18,21 @@ abbrev pub labels : List BodyLine → List (List ℕ)
 labels [] = []
 labels (b ∷ bs) = option_to_list b.label ++ labels bs
 
--- what a definition declares: its result, arguments, locals and labels
-abbrev pub declared_names : Definition → List (List ℕ)
-declared_names d = option_to_list d.header.result ++ option_to_list d.header.left ++ option_to_list d.header.right ++ d.header.locals ++ labels d.body
+-- the names of a definition, in the order of their places: its result, left argument, function, right argument,
+-- locals and labels
+abbrev pub names_of_definition : Definition → List (List ℕ)
+names_of_definition d = option_to_list d.header.result ++ (option_to_list d.header.left ++ (d.header.f ∷ (option_to_list d.header.right ++ (d.header.locals ++ labels d.body))))
 
 pub record IsLawfulLine (hs : List Heading) (b : BodyLine) : Type 0 where
   pub label : IsOptionalName b.label
   pub statement : IsStatement hs b.statement
 
--- a definition is well formed where its names differ from each other and from its function's own, and none of
--- them heads a definition
+-- a definition is well formed where its names differ, and none of them but its function's own heads a definition
 pub record IsLawfulDefinition (hs : List Heading) (d : Definition) : Type 0 where
   pub header : IsHeader d.header
   pub body : AllByRecursion (IsLawfulLine hs) d.body
-  pub distinct : IsDistinct is_same_name (d.header.f ∷ declared_names d)
-  pub free : AreFree hs (declared_names d)
+  pub distinct : IsDistinct is_same_name (names_of_definition d)
+  pub free : AllByRecursion (λ n. (n ≡ d.header.f) ⊎ (arguments_of hs n ≡ None)) (names_of_definition d)
 
 -- a command is well formed where )ERASE names no function
 abbrev pub ErasesFree : List Heading → Command → Type 0
