@@ -11,7 +11,10 @@ mod texts;
 mod tokens;
 mod trees;
 
-pub use examples::{tokens_of_ten_lines, trees_of_fifteen_lines};
+pub use examples::{
+    refusals_of_bytes_and_characters, refusals_of_definitions, refusals_of_lines,
+    tokens_of_ten_lines, trees_of_fifteen_lines,
+};
 pub use functions::{Axis, DyaFn, MonFn};
 pub use laws::{
     accepted_exactly, one_body_line, one_command, one_expression, one_first_line_refusal,
