@@ -1,6 +1,28 @@
+use std::alloc::{AllocError, AllocFailed};
+
 /// Memory was wanting. No contract says when.
 #[derive(Clone, Copy, Debug, PartialEq, Eq)]
 pub struct NoMemory;
+
+impl From<AllocError> for NoMemory {
+    ghost use Rattle.std.specs.Prelude.{◌≡◌};
+
+    ghost from_gives = { λ _ e. e ≡ record {} };
+
+    fn from(_fault: AllocError) -> NoMemory {
+        NoMemory
+    }
+}
+
+impl<T: Drop> From<AllocFailed<T>> for NoMemory {
+    ghost use Rattle.std.specs.Prelude.{◌≡◌};
+
+    ghost from_gives = { λ _ e. e ≡ record {} };
+
+    fn from(_fault: AllocFailed<T>) -> NoMemory {
+        NoMemory
+    }
+}
 
 /// Lengths that are no shape: more than 8, or one or their product above 2^40.
 #[derive(Clone, Copy, Debug, PartialEq, Eq)]

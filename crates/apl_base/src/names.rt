@@ -1,3 +1,8 @@
+ghost use Rattle.std.specs.Prelude.{◌≡◌, ◌↔◌, IfOk, IsTrue};
+ghost use Rattle.std.specs.Str.{chars, encode_utf8_all};
+
+use crate::faults::NoMemory;
+use std::alloc::Global;
 use std::marker::Model;
 
 /// A name, which contracts see as the list of its characters.
@@ -16,11 +21,35 @@ impl Model for Name {
     ghost view = { λ n. chars (string_bytes n.text) };
 }
 
-// The contracts of the calls on a name (bodies to come):
-//
-//  /// The name of this text.
-//  pub fn of(alloc: Global, text: &str) -> Result<Name, NoMemory>  ensures { IfOk result (λ n. n ≡ chars text.now) }
-//  pub fn copy(&self, alloc: Global) -> Result<Name, NoMemory>  ensures { IfOk result (λ n. n ≡ self.now) }
-//  pub fn as_str(&self) -> &str
-//      ensures characters { chars result.now ≡ self.now } ensures bytes { result.now ≡ encode_utf8_all self.now }
-//  pub fn is(&self, other: &Name) -> bool  ensures { IsTrue result ↔ (self.now ≡ other.now) }
+impl Name {
+    /// The name of this text.
+    pub fn of(alloc: Global, text: &str) -> Result<Name, NoMemory>
+        ensures { IfOk result (λ n. n ≡ chars text.now) }
+    {
+        Ok(Name {
+            text: String::from_str(alloc, text)?,
+        })
+    }
+
+    /// The same name again.
+    pub fn copy(&self, alloc: Global) -> Result<Name, NoMemory>
+        ensures { IfOk result (λ n. n ≡ self.now) }
+    {
+        Name::of(alloc, self.as_str())
+    }
+
+    /// The text of the name.
+    pub fn as_str(&self) -> &str
+        ensures characters { chars result.now ≡ self.now }
+        ensures bytes { result.now ≡ encode_utf8_all self.now }
+    {
+        self.text.as_str()
+    }
+
+    /// Whether the names are the same.
+    pub fn is(&self, other: &Name) -> bool
+        ensures { IsTrue result ↔ (self.now ≡ other.now) }
+    {
+        self.as_str() == other.as_str()
+    }
+}

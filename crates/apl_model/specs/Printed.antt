@@ -1,5 +1,5 @@
 -- What is printed: arrays and reports, as characters. (Own: the layout of arrays and the three-line report.)
-use Rattle.std.specs.Prelude.{ℕ, zero, suc, ◌+◌, ◌-◌, ◌*◌, ◌/◌, ◌%◌, nat_lt, max, ℤ, pos, negsuc, Bool, true, false, List, [], ◌∷◌, ◌++◌, map, length, replicate, take, drop, codes, if◌then◌else◌}
+use Rattle.std.specs.Prelude.{ℕ, zero, suc, ◌+◌, ◌-◌, ◌*◌, max, ℤ, pos, negsuc, Bool, true, false, List, [], ◌∷◌, ◌++◌, map, length, replicate, take, drop, codes, decimal}
 use Rattle.std.specs.List.{join_by, fold}
 use Rattle.apl_base.specs.declared.cells.Kind.{Kind}
 use Rattle.apl_base.specs.declared.cells.Kind.TheVariants.{Num, Char}
@@ -10,19 +10,10 @@ use Rattle.apl_model.specs.Whole.{is_empty}
 
 -- ---- numbers
 
--- the decimal digits of n, of which there are at most so many
-abbrev pub digits_within : ℕ → ℕ → List ℕ
-digits_within zero n = []
-digits_within (suc k) n = if nat_lt n 10 then (48 + n) ∷ [] else digits_within k (n / 10) ++ (48 + n % 10) ∷ []
-
--- a natural number below 10^40
-abbrev pub decimal_digits : ℕ → List ℕ
-decimal_digits n = digits_within 40 n
-
 -- a number: its digits, with ¯ before a negative one
 abbrev pub number_text : ℤ → List ℕ
-number_text (pos n) = decimal_digits n
-number_text (negsuc n) = 175 ∷ decimal_digits (suc n)
+number_text (pos n) = decimal n
+number_text (negsuc n) = 175 ∷ decimal (suc n)
 
 -- a character is itself
 abbrev pub cell_text : Kind → ℤ → List ℕ
@@ -116,7 +107,7 @@ error_name error.Depth = codes "DEPTH"
 
 -- what stands before the line of a body: the function's name and the line's number in brackets, and a blank
 abbrev pub body_prefix : List ℕ → ℕ → List ℕ
-body_prefix name k = name ++ codes "[" ++ decimal_digits k ++ codes "] "
+body_prefix name k = name ++ codes "[" ++ decimal k ++ codes "] "
 
 -- what stands before a line outside definitions: six blanks
 abbrev pub plain_prefix : List ℕ

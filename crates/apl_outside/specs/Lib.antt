@@ -1,0 +1,4 @@
+pub mod Adapters
+pub mod Bytes
+pub mod Faults
+pub mod Memory

@@ -1,0 +1,18 @@
+//! Laws of the definitions: each is the contract of a call that does nothing.
+
+ghost use Rattle.std.specs.Prelude.{◌≡◌, [], ◌∷◌, Some, None, codes};
+ghost use Rattle.apl_read.specs.Lines.{lines_of};
+ghost use Rattle.apl_read.specs.Sums.{refusal_of, sums_of, not_built};
+ghost use Rattle.apl_read.specs.declared.lines.Line.TheVariants.{Empty, One, Two};
+
+/// Worked examples of lines, of what they say, and of the first refusal.
+pub fn worked_lines()
+    ensures lines { lines_of (codes "10\n\n7+1\n") ≡ codes "10" ∷ [] ∷ codes "7+1" ∷ [] }
+    ensures sum { sums_of (codes "2+3") ≡ Two 2 3 ∷ [] }
+    ensures said { sums_of (codes "10\n\n99999999999999999+1") ≡ One 10 ∷ Empty ∷ Two 99999999999999999 1 ∷ [] }
+    ensures accepted { refusal_of (codes "2+3") ≡ None }
+    ensures difference { refusal_of (codes "2+3\n2-1") ≡ Some (not_built 2) }
+    ensures too_many_digits { refusal_of (codes "100000000000000000") ≡ Some (not_built 1) }
+    ensures blank { refusal_of (codes "2 +3") ≡ Some (not_built 1) }
+    ensures three_operands { refusal_of (codes "1+2+3") ≡ Some (not_built 1) }
+{}

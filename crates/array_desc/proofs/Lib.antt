@@ -1,0 +1,10 @@
+pub mod Algebra
+pub mod Transposition
+pub mod Canon
+pub mod Ends
+pub mod Indices
+pub mod Kept
+pub mod Places
+pub mod Maps
+pub mod Sums
+pub mod Walks

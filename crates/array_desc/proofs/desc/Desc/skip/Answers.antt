@@ -1,0 +1,10 @@
+use Rattle.array_desc.proofs.Maps.{drop_lengths, drop_reads}
+use Rattle.array_desc.proofs.Sums.{makes-selects, selects-read}
+use Rattle.array_desc.proofs.desc.Desc.skip.Goals as goal
+
+pub returns-clause-selects : goal.returns-clause-selects
+returns-clause-selects c =
+    let ns = c.args.self.now.shape in
+    let counts = c.args.counts.now in
+    let s = makes-selects _ _ _ c.args.self.now c.settled.result _ _ c.window.ensures c.settled.ensures.shape c.settled.ensures.numbers in
+    selects-read c.args.self.now c.settled.result _ _ _ _ (drop_lengths ns counts) (λ i q. drop_reads ns counts i) s

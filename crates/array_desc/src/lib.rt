@@ -1,0 +1,15 @@
+//! Descriptors: how the index of an element leads to a number, without reading an element.
+#![tactic(auto)]
+
+mod desc;
+mod diagonals;
+mod laws;
+mod lists;
+mod parts;
+mod selections;
+mod steps;
+#[cfg(test)]
+mod tests;
+
+pub use desc::Desc;
+pub use laws::{determined, worked_numbers};

@@ -1,0 +1,3 @@
+pub mod IntervalLemmas
+pub mod StoreLemmas
+pub mod FollowsLemmas

@@ -1,0 +1,3 @@
+pub mod LawfulElements
+pub mod LawfulNumbers
+pub mod Row

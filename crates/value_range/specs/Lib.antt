@@ -1,0 +1,4 @@
+pub mod Interval
+pub mod Sound
+pub mod Laws
+pub mod Examples
