@@ -29,7 +29,7 @@ fn whole(alloc: Global, lengths: &[u64]) -> Desc
     requires { IsShape lengths.now }
     ensures { result.shape ≡ lengths.now }
 {
-    Desc::whole(alloc, &shape(alloc, lengths))
+    Desc::whole(&shape(alloc, lengths))
 }
 
 fn takes(
