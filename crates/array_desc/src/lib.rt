@@ -8,6 +8,8 @@ mod lists;
 mod parts;
 mod selections;
 mod steps;
+#[cfg(test)]
+mod tests;
 
 pub use desc::Desc;
 pub use laws::{determined, worked_numbers};

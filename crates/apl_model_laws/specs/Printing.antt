@@ -1,0 +1,72 @@
+-- What is printed doesn't depend on what was printed before, and only grows.
+use Rattle.std.specs.Prelude.{◌≡◌, ℕ, List, ◌++◌, Option, encode_utf8_all}
+use Rattle.apl_base.specs.declared.faults.Place.{Place}
+use Rattle.apl_base.specs.Array.{Array}
+use Rattle.apl_model.specs.Call.{Routine, call_within}
+use Rattle.apl_model.specs.Evaluation.{State, Outcome, done, fails, spent, Calls, value_of, positions_of, statement_flow}
+use Rattle.apl_model.specs.Immediate.{run_items}
+use Rattle.apl_model.specs.Tree.{Tree, Positions, Statement, Script, Item}
+use Rattle.apl_model_laws.specs.Turns.{state_of}
+
+-- ---- what was printed before
+
+-- the same state, after this text too
+abbrev pub onto : List ℕ → State → State
+onto text s = record s { printed = text ++ s.printed }
+
+abbrev pub outcome_onto : {A : Type 0} → List ℕ → Outcome A → Outcome A
+outcome_onto text (done a s) = done a (onto text s)
+outcome_onto text (fails kind place s) = fails kind place (onto text s)
+outcome_onto text (spent s) = spent (onto text s)
+
+-- a part of a run does the same whatever was printed before, and prints behind it
+abbrev pub PrintsBehind : {A : Type 0} → (State → Outcome A) → Type 0
+PrintsBehind act = (text : List ℕ) (s : State) → act (onto text s) ≡ outcome_onto text (act s)
+
+abbrev pub CallsPrintBehind : Calls → Type 0
+CallsPrintBehind calls = (f : List ℕ) (place : Place) (left right : Option Array) → PrintsBehind (calls f place left right)
+
+abbrev pub ExpressionsPrintBehind : Type 0
+ExpressionsPrintBehind = (calls : Calls) → CallsPrintBehind calls → (t : Tree) → PrintsBehind (value_of calls t)
+
+abbrev pub PositionsPrintBehind : Type 0
+PositionsPrintBehind = (calls : Calls) → CallsPrintBehind calls → (qs : Positions) → PrintsBehind (positions_of calls qs)
+
+abbrev pub StatementsPrintBehind : Type 0
+StatementsPrintBehind = (calls : Calls) → CallsPrintBehind calls → (t : Statement) → PrintsBehind (statement_flow calls t)
+
+-- the calls of functions do, however many more may be pending
+abbrev pub FunctionsPrintBehind : Type 0
+FunctionsPrintBehind = (routines : List (Routine Statement)) (n : ℕ) → CallsPrintBehind (call_within Statement statement_flow routines n)
+
+-- ---- what is printed stays
+
+-- one text begins with another
+abbrev pub BeginsWith : List ℕ → List ℕ → Type 0
+BeginsWith whole front = (rest : List ℕ) × (whole ≡ front ++ rest)
+
+-- a part of a run takes back nothing that was printed before
+abbrev pub KeepsPrinted : {A : Type 0} → (State → Outcome A) → Type 0
+KeepsPrinted act = (s : State) → BeginsWith (state_of (act s)).printed s.printed
+
+abbrev pub CallsKeepPrinted : Calls → Type 0
+CallsKeepPrinted calls = (f : List ℕ) (place : Place) (left right : Option Array) → KeepsPrinted (calls f place left right)
+
+abbrev pub ExpressionsKeepPrinted : Type 0
+ExpressionsKeepPrinted = (calls : Calls) → CallsKeepPrinted calls → (t : Tree) → KeepsPrinted (value_of calls t)
+
+abbrev pub StatementsKeepPrinted : Type 0
+StatementsKeepPrinted = (calls : Calls) → CallsKeepPrinted calls → (t : Statement) → KeepsPrinted (statement_flow calls t)
+
+abbrev pub FunctionsKeepPrinted : Type 0
+FunctionsKeepPrinted = (routines : List (Routine Statement)) (n : ℕ) → CallsKeepPrinted (call_within Statement statement_flow routines n)
+
+-- what a run prints begins with what the run of its first items prints
+abbrev pub RunsBeginWithTheirPrefixes : Type 0
+RunsBeginWithTheirPrefixes = (script : Script) (items more : List Item) (n : ℕ) →
+    BeginsWith (run_items script (items ++ more) n).state.printed (run_items script items n).state.printed
+
+-- and so do its bytes
+abbrev pub BytesBeginWithTheirPrefixes : Type 0
+BytesBeginWithTheirPrefixes = (script : Script) (items more : List Item) (n : ℕ) →
+    BeginsWith (encode_utf8_all (run_items script (items ++ more) n).state.printed) (encode_utf8_all (run_items script items n).state.printed)

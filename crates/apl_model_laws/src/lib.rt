@@ -1,0 +1,15 @@
+//! Laws of the definitions of evaluation. Each function does nothing: its contract is a law.
+#![tactic(auto)]
+
+mod printing;
+mod turns;
+
+pub use printing::{
+    bytes_begin_with_their_prefixes, expressions_keep_printed, expressions_print_behind,
+    functions_keep_printed, functions_print_behind, positions_print_behind,
+    runs_begin_with_their_prefixes, statements_keep_printed, statements_print_behind,
+};
+pub use turns::{
+    expressions_keep_turns, functions_keep_turns, immediate_ends_at_most, positions_keep_turns,
+    runs_keep_turns, statements_keep_turns,
+};
