@@ -26,7 +26,7 @@ pub fn look_up_laws()
     ensures others { PutLeavesOthers }
 {}
 
-/// Worked rows of the definitions.
+/// Worked examples of the definitions.
 pub fn worked_rows()
     ensures widened { hull (interval.Span (pos 2) (pos 5)) (negsuc 0) ≡ interval.Span (negsuc 0) (pos 5) }
     ensures inside { hull (interval.Span (pos 2) (pos 5)) (pos 3) ≡ interval.Span (pos 2) (pos 5) }
