@@ -1,8 +1,8 @@
-ghost use Rattle.std.specs.Prelude.{◌≡◌, ℕ, List};
+ghost use Rattle.std.specs.Prelude.{◌≡◌, ℕ, ◌<◌, ◌↔◌, IsTrue, List};
 ghost use Rattle.apl_base.specs.Array.{IsIndex};
 ghost use Rattle.apl_base.specs.Interval.{InInterval, IsInterval};
 ghost use Rattle.array_desc.specs.Desc.{IsDesc};
-ghost use Rattle.drag_along.specs.Nodes.{leaf_desc, leaf_kind, leaf_shape};
+ghost use Rattle.drag_along.specs.Nodes.{leaf_desc, leaf_kind, leaf_shape, named_by_leaf};
 ghost use Rattle.drag_along.specs.Lawful.{IsLawfulLeaf, IsLeafInterval, LeafWithin};
 
 use apl_base::{Interval, Kind};
@@ -50,6 +50,16 @@ impl Leaf {
     {
         match self {
             Leaf::Stored { kind, .. } | Leaf::Gen { kind, .. } => *kind,
+        }
+    }
+
+    /// Whether it names an owner.
+    pub fn names(&self, owner: OwnerId) -> bool
+        ensures { IsTrue result ↔ (0 < named_by_leaf self.now owner) }
+    {
+        match self {
+            Leaf::Stored { owner: named, .. } => *named == owner,
+            Leaf::Gen { .. } => false,
         }
     }
 

@@ -1,4 +1,4 @@
-ghost use Rattle.std.specs.Prelude.{◌≡◌, ℕ, ◌+◌, ◌<◌, ◌≤◌, IfOk};
+ghost use Rattle.std.specs.Prelude.{◌≡◌, ℕ, ◌+◌, ◌<◌, ◌≤◌, ◌↔◌, IsTrue, IfOk};
 ghost use Rattle.apl_base.specs.Interval.{IsInterval};
 ghost use Rattle.apl_base.specs.Scalar.{scalar1, scalar2};
 ghost use Rattle.value_range.specs.Interval.{ranged1, ranged2};
@@ -13,6 +13,7 @@ ghost use Rattle.drag_along.specs.Lawful.{IsLawfulLeaf, LeafWithin, IsLawful};
 use crate::leaves::Leaf;
 use crate::nodes::Node;
 use apl_base::{Dya, Interval, Kind, Mon, NoMemory, Place, Shape};
+use array_store::OwnerId;
 use std::alloc::Global;
 use std::marker::Model;
 use value_range::{Ranged, Side, range1, range2};
@@ -88,6 +89,21 @@ impl Segment {
             }
         }
         count
+    }
+
+    /// Whether one of its leaves names an owner.
+    pub fn names(&self, owner: OwnerId) -> bool
+        ensures value { IsTrue result ↔ (0 < named_by self.now owner) }
+        ensures segment { IsSegment self.now }
+    {
+        for node in &self.nodes {
+            if let Node::Operand { leaf } = node
+                && leaf.names(owner)
+            {
+                return true;
+            }
+        }
+        false
     }
 }
 
