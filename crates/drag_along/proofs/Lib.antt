@@ -1,0 +1,5 @@
+pub mod NodeLemmas
+pub mod MeaningLemmas
+pub mod LawfulLemmas
+pub mod LeafLemmas
+pub mod JoinLemmas

@@ -1,0 +1,4 @@
+pub mod Nodes
+pub mod Segments
+pub mod Meaning
+pub mod Lawful

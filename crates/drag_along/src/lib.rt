@@ -1,0 +1,11 @@
+//! Pending expressions: segments of leaves and scalar functions in postfix order, what they mean over a store, and how
+//! a scalar function joins its operands without computing an element.
+#![tactic(auto)]
+
+mod leaves;
+mod nodes;
+mod segments;
+
+pub use leaves::{Leaf, leaf_interval};
+pub use nodes::Node;
+pub use segments::{Segment, join1, join2};
