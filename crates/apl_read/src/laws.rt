@@ -1,6 +1,8 @@
 //! Laws of the definitions: each is the contract of a call that does nothing.
 
-ghost use Rattle.std.specs.Prelude.{◌≡◌, [], ◌∷◌, Some, None, codes};
+ghost use Rattle.std.specs.Prelude.{◌≡◌, ℕ, List, [], ◌∷◌, Some, None, codes};
+ghost use Rattle.apl_model.specs.Refusal.{IsReadingRefusal};
+ghost use Rattle.apl_read.specs.Refusals.{IsFirstIfAny, reading_refusal};
 ghost use Rattle.apl_read.specs.Lines.{lines_of};
 ghost use Rattle.apl_read.specs.Sums.{refusal_of, sums_of, not_built};
 ghost use Rattle.apl_read.specs.declared.lines.Line.TheVariants.{Empty, One, Two};
@@ -15,4 +17,9 @@ pub fn worked_lines()
     ensures too_many_digits { refusal_of (codes "100000000000000000") ≡ Some (not_built 1) }
     ensures blank { refusal_of (codes "2 +3") ≡ Some (not_built 1) }
     ensures three_operands { refusal_of (codes "1+2+3") ≡ Some (not_built 1) }
+{}
+
+/// The refusal that is computed is the first of all refusals of the bytes and the lines' characters.
+pub fn first_reading_refusal()
+    ensures { (bytes : List ℕ) → IsFirstIfAny (IsReadingRefusal bytes) (reading_refusal bytes) }
 {}
