@@ -4,6 +4,5 @@ mod FirstRefusal
 mod QuoteLemmas
 mod LineLemmas
 mod Operands
-mod Splits
 mod StepLemmas
 mod WordLemmas

@@ -1,5 +1,4 @@
 pub mod Answer
-pub mod Lines
 pub mod NoNumbers
 pub mod Pieces
 pub mod Refusals

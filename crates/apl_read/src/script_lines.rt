@@ -32,7 +32,7 @@ fn readable_text(script: &[u8]) -> &str
 }
 
 /// The characters of a text.
-fn characters_of(alloc: Global, text: &str) -> Result<Vec<char>, NoMemory>
+pub(crate) fn characters_of(alloc: Global, text: &str) -> Result<Vec<char>, NoMemory>
     ensures { IfOk result (λ characters. characters.items ≡ chars text.now) }
 {
     let characters = text.chars().collect(alloc)?;
