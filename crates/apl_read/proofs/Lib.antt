@@ -1,2 +1,8 @@
+mod AnswerLemmas
+mod Digits
+mod FirstRefusal
+mod QuoteLemmas
+mod LineLemmas
 mod Operands
-mod Splits
+mod StepLemmas
+mod WordLemmas

@@ -1,6 +1,7 @@
 -- How the reader's answers stand to the definitions.
-use Rattle.std.specs.Prelude.{◌≡◌, Option, Some}
+use Rattle.std.specs.Prelude.{◌≡◌, ℕ, Option, Some}
 use Rattle.apl_base.specs.declared.faults.Refusal.{Refusal}
+use Rattle.apl_model.specs.Refusal.{IsFirst}
 use Rattle.apl_read.specs.declared.faults.ReadFault.{ReadFault}
 use Rattle.apl_read.specs.declared.faults.ReadFault.TheVariants.{Refused, NoMemory}
 
@@ -8,3 +9,13 @@ use Rattle.apl_read.specs.declared.faults.ReadFault.TheVariants.{Refused, NoMemo
 abbrev pub IsRefusedAs : ReadFault → Option Refusal → Type 0
 IsRefusedAs (Refused refusal) first = first ≡ Some refusal
 IsRefusedAs NoMemory first = Unit {0}
+
+-- where the script is refused, it is by the first of the refusals that there are
+abbrev pub IsRefusedFirst : ReadFault → (Refusal → Type 0) → Type 0
+IsRefusedFirst (Refused refusal) Refuses = IsFirst Refuses refusal
+IsRefusedFirst NoMemory Refuses = Unit {0}
+
+-- where the script is refused, it is in this column
+abbrev pub IsInColumn : ReadFault → ℕ → Type 0
+IsInColumn (Refused refusal) column = refusal.column ≡ column
+IsInColumn NoMemory column = Unit {0}

@@ -1,4 +1,4 @@
-use apl_base::Refusal;
+use apl_base::{NoMemory, Refusal};
 use thiserror::Error;
 
 /// Why a script was not read: it is refused, or memory was wanting.
@@ -8,4 +8,15 @@ pub enum ReadFault {
     Refused { refusal: Refusal },
     #[error("memory was wanting")]
     NoMemory,
+}
+
+impl From<NoMemory> for ReadFault {
+    ghost use Rattle.std.specs.Prelude.{◌≡◌};
+    ghost use Rattle.apl_read.specs.declared.faults.ReadFault.TheVariants.{NoMemory};
+
+    ghost from_gives = { λ _ fault. fault ≡ NoMemory };
+
+    fn from(_fault: NoMemory) -> ReadFault {
+        ReadFault::NoMemory
+    }
 }

@@ -5,8 +5,8 @@ use Rattle.apl_base.specs.declared.faults.Refusal.{Refusal}
 use Rattle.apl_base.specs.declared.faults.Cause.{Cause}
 use Rattle.apl_base.specs.declared.faults.Cause.TheVariants.{TooLong, Utf8, Character, LineLong, Number, OpenText, Header, DoubleName, OpenDefinition, NameClass, Deep, Grammar, NotBuilt}
 use Rattle.apl_read.specs.Sums.{refusal_of, sums_of}
-use Rattle.apl_read.specs.declared.lines.Line.{Line}
-use Rattle.apl_read.specs.declared.lines.Line.TheVariants.{Empty, One, Two}
+use Rattle.apl_read.specs.declared.sums.Sum.{Sum}
+use Rattle.apl_read.specs.declared.sums.Sum.TheVariants.{Empty, One, Two}
 use Rattle.apl_run.specs.declared.statuses.Status.{Status}
 use Rattle.apl_run.specs.declared.statuses.Status.TheVariants.{Done, Refused}
 
@@ -15,7 +15,7 @@ abbrev pub with_newline : List ℕ → List ℕ
 with_newline bytes = bytes ++ 10 ∷ []
 
 -- the value of a line that has one
-abbrev pub value_of : Line → Option ℕ
+abbrev pub value_of : Sum → Option ℕ
 value_of Empty = None
 value_of (One operand) = Some operand
 value_of (Two left right) = Some (left + right)
@@ -26,7 +26,7 @@ value_text None = []
 value_text (Some value) = with_newline (decimal value)
 
 -- what a line prints: its value, if it has one
-abbrev pub printed : Line → List ℕ
+abbrev pub printed : Sum → List ℕ
 printed line = value_text (value_of line)
 
 -- the words of a cause
@@ -59,7 +59,7 @@ abbrev pub refused_answer : Refusal → Answer
 refused_answer refusal = record { status = Refused refusal; bytes = refusal_line refusal }
 
 -- what these lines answer, unless they are refused
-abbrev pub answer_unless : Option Refusal → List Line → Answer
+abbrev pub answer_unless : Option Refusal → List Sum → Answer
 answer_unless None lines = record { status = Done; bytes = flat_map printed lines }
 answer_unless (Some refusal) lines = refused_answer refusal
 

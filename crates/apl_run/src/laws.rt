@@ -1,7 +1,7 @@
 //! Laws of the definitions: each is the contract of a call that does nothing.
 
-ghost use Rattle.std.specs.Prelude.{◌≡◌, ℕ, ◌<◌, List, [], length, codes};
-ghost use Rattle.apl_read.specs.declared.lines.TheConstants.{MOST_BYTES};
+ghost use Rattle.std.specs.Prelude.{◌≡◌, ℕ, ◌<◌, List, [], ◌∷◌, length, codes};
+ghost use Rattle.apl_read.specs.declared.script.TheConstants.{MOST_BYTES};
 ghost use Rattle.apl_run.specs.Immediate.{immediate};
 ghost use Rattle.apl_run.specs.Worked.{done, refused};
 
@@ -13,6 +13,8 @@ pub fn worked_scripts()
     ensures sum { immediate (codes "2+3") ≡ done (codes "5\n") }
     ensures nothing { immediate [] ≡ done [] }
     ensures empty_line { immediate (codes "10\n\n99999999999999999+1") ≡ done (codes "10\n100000000000000000\n") }
+    ensures fault { immediate (codes "2-1\n'A") ≡ refused 2 1 Cause.OpenText (codes "REFUSED 2 1 OPEN TEXT\n") }
+    ensures ill_formed { immediate (50 ∷ 43 ∷ 255 ∷ []) ≡ refused 1 3 Cause.Utf8 (codes "REFUSED 1 3 UTF8\n") }
     ensures not_built { immediate (codes "2+3\n2-1") ≡ refused 2 1 Cause.NotBuilt (codes "REFUSED 2 1 NOT BUILT\n") }
 {}
 

@@ -9,7 +9,7 @@ ghost use Rattle.apl_run.specs.Immediate.{printed, value_of, cause_text, refusal
 use crate::statuses::{Status, Which};
 use apl_base::{Cause, Cell, Refusal};
 use apl_outside::{Sink, push_all};
-use apl_read::Line;
+use apl_read::Sum;
 use std::alloc::{AllocError, Global};
 use std::fmt::Write;
 
@@ -38,18 +38,18 @@ impl PrintFault {
 const PIECE: usize = 4096;
 
 /// The value of a line, if it has one.
-fn value_of_line(line: &Line) -> Option<Cell>
+fn value_of_line(line: &Sum) -> Option<Cell>
     ensures { result ≡ option_map pos (value_of line.now) }
 {
     match line {
-        Line::Empty => None,
-        Line::One { operand } => Some(Cell::from(*operand)),
-        Line::Two { left, right } => Some(Cell::from(*left) + Cell::from(*right)),
+        Sum::Empty => None,
+        Sum::One { operand } => Some(Cell::from(*operand)),
+        Sum::Two { left, right } => Some(Cell::from(*left) + Cell::from(*right)),
     }
 }
 
 /// Adds what a line prints.
-fn add_line(text: &mut String, line: &Line) -> Result<(), PrintFault>
+fn add_line(text: &mut String, line: &Sum) -> Result<(), PrintFault>
     ensures added { OnOk result (string_bytes text.new ≡ string_bytes text.old ++ printed line.now) }
     ensures only_memory { IsOkUnless result PrintFault.NoMemory }
 {
@@ -125,7 +125,7 @@ pub(crate) fn print_refusal<O: Sink>(
 /// Prints what the lines print.
 pub(crate) fn print_lines<O: Sink>(
     alloc: Global,
-    lines: &[Line],
+    lines: &[Sum],
     out: &mut O,
 ) -> Result<(), PrintFault>
     ensures ok { OnOk result (Gains (O.written out.old) (O.written out.new) (flat_map printed lines.now)) }

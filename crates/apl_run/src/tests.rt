@@ -79,11 +79,21 @@ fn scripts_print_and_are_refused(rt: HostRuntime) -> Result<(), Fail> {
         ("100000000000000000", 2, "REFUSED 1 1 NOT BUILT\n"),
         ("1+2+3", 2, "REFUSED 1 1 NOT BUILT\n"),
         (" 1", 2, "REFUSED 1 1 NOT BUILT\n"),
+        // A refusal of a character or a word comes first, in whatever line it stands.
+        ("3.5", 2, "REFUSED 1 1 NUMBER\n"),
+        ("'AB", 2, "REFUSED 1 1 OPEN TEXT\n"),
+        ("2@3", 2, "REFUSED 1 2 CHARACTER\n"),
+        ("A]\n3.5", 2, "REFUSED 2 1 NUMBER\n"),
     ];
     for (script, code, printed) in table {
         let left = run(rt.alloc(), script.as_bytes(), PLAIN)?;
         assert_left(&rt, &left, code, printed, "");
     }
+    let left = run(rt.alloc(), b"2+\xff", PLAIN)?;
+    assert_left(&rt, &left, 2, "REFUSED 1 3 UTF8\n", "");
+    let blanks = vec![in rt.alloc(); b' '; 1001]?;
+    let left = run(rt.alloc(), blanks.as_slice(), PLAIN)?;
+    assert_left(&rt, &left, 2, "REFUSED 1 1001 LINE LONG\n", "");
     Ok(())
 }
 
