@@ -18,12 +18,12 @@ use Rattle.apl_base.specs.Number.{IsNumber, IsCell}
 use Rattle.apl_base.specs.Scalar.{residue}
 use Rattle.apl_base.specs.Selection.{AreAxes, axes_rank, upward, transpose_shape, transpose_index}
 use Rattle.apl_base.proofs.Sizes.{size_of-append}
-use Rattle.array_desc.proofs.Transposition.{transposed_shape}
 use Rattle.scalar_table.specs.LawfulNumbers.{of_numbers-lawful}
 use Rattle.apl_model.specs.declared.functions.Axis.{Axis}
 use Rattle.apl_model.specs.Made.{is_above_one, are_bits, flipped, less_origin, are_axes, transposed, read_or_fill, ones_from, extended_to, bits_along, compress, ones, spaced, expand, carried, cons_digit, digits, digit_rows, columns_of, flat, encode}
 use Rattle.apl_model.specs.Whole.{rank, count, is_single, is_text, is_extendable, first, vector}
 use Rattle.apl_model_laws.proofs.Arrays.{all_imp, all_map, all_append, all_replicate, all_at, length-upward, all_defined-each, split, list_all-each, Gives, gives, error_if-gives, within-gives, domain-gives, small_number, zero_cell, first-lawful, tabulated-array, selected-array, one_axis}
+use Rattle.apl_model_laws.proofs.Transposes.{transposed_shape}
 use Rattle.apl_model_laws.proofs.Forms.{IsAxisOf, axis-gives, not-false, or-false, numbers-of, read-lawful}
 
 -- ---- transposes

@@ -5,4 +5,6 @@ pub mod Counted
 pub mod Forms
 pub mod Kept
 pub mod Safe
+pub mod Scripts
+pub mod Transposes
 pub mod Values

@@ -269,7 +269,7 @@ unset-lawful : (names : List (List ℕ)) → AreBindings (map unset names)
 unset-lawful [] = tt
 unset-lawful (n ∷ ns) = (tt, unset-lawful ns)
 
-below-number : (k n : ℕ) → k ≤ n → IsNumber (pos n) → IsNumber (pos k)
+pub below-number : (k n : ℕ) → k ≤ n → IsNumber (pos n) → IsNumber (pos k)
 below-number k n l h = record { least = omega (arith, ints, h.most, l); most = omega (arith, ints, h.most, l) }
 
 labels-lawful : {S : Type 0} (k n : ℕ) (ls : List (RoutineLine S)) → k + length ls ≤ suc n → IsNumber (pos n) → AreBindings (label_bindings k ls)

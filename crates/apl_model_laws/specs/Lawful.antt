@@ -9,13 +9,15 @@ use Rattle.apl_model.specs.declared.functions.Axis.{Axis}
 use Rattle.apl_model.specs.declared.functions.DyaFn.{DyaFn}
 use Rattle.apl_model.specs.declared.functions.MonFn.{MonFn}
 use Rattle.apl_model.specs.declared.tokens.Heading.{Heading}
+use Rattle.apl_model.specs.declared.tokens.Line.{Line}
 use Rattle.apl_model.specs.declared.trees.Literal.{Literal}
 use Rattle.apl_model.specs.Call.{Routine, RoutineLine, call_within}
 use Rattle.apl_model.specs.Environment.{Environment, Bindings}
 use Rattle.apl_model.specs.Evaluation.{State, Outcome, done, fails, spent, Calls, literal_array, monadic_value, dyadic_value, value_of, positions_of, statement_flow}
 use Rattle.apl_model.specs.Grammar.{IsLiteral, IsExpression, ArePositions, IsStatement, IsCommand}
-use Rattle.apl_model.specs.Immediate.{routine, run_items}
+use Rattle.apl_model.specs.Immediate.{routine, run_items, immediate}
 use Rattle.apl_model.specs.Product.{reduce, outer, inner}
+use Rattle.apl_model.specs.Script.{headings, IsScript}
 use Rattle.apl_model.specs.Subscript.{subscript, replacement}
 use Rattle.apl_model.specs.Tree.{Tree, Positions, Statement, Item, statement_item, command_item, definition_item, Script}
 use Rattle.apl_model.specs.Whole.{Answer, is_shape}
@@ -121,3 +123,12 @@ IsLawfulItem hs (definition_item d) = IsRoutine hs (routine d)
 abbrev pub RunsAreLawful : Type 0
 RunsAreLawful = (hs : List Heading) (script : Script) (items : List Item) (n : ℕ) → AllByRecursion (IsLawfulItem hs) script.items →
     AllByRecursion (IsLawfulItem hs) items → IsEnvironment (run_items script items n).state.variables
+
+-- the items of a script are items of the language, where a number of the language counts its lines
+abbrev pub ScriptsHaveLawfulItems : Type 0
+ScriptsHaveLawfulItems = (ls : List Line) (script : Script) → IsScript ls script → IsNumber (pos (length ls)) → AllByRecursion (IsLawfulItem (headings script.items)) script.items
+
+-- so its immediate evaluation leaves lawful globals, and the origin 0 or 1
+abbrev pub ImmediateIsLawful : Type 0
+ImmediateIsLawful = (ls : List Line) (script : Script) → IsScript ls script → IsNumber (pos (length ls)) →
+    (n : ℕ) → AreBindings (immediate script n).globals × IsOrigin (immediate script n).origin

@@ -1,5 +1,5 @@
 //! What is lawful stays lawful: numbers within -M..M, characters of Unicode, and lengths that make a shape.
-ghost use Rattle.apl_model_laws.specs.Lawful.{ShapesAreTested, LiteralsAreLawful, MonadicValuesAreLawful, DyadicValuesAreLawful, ReductionsAreLawful, OuterProductsAreLawful, InnerProductsAreLawful, SubscriptsAreLawful, ReplacementsAreLawful, ExpressionsAreLawful, PositionsAreLawful, StatementsAreLawful, FunctionsAreLawful, RunsAreLawful};
+ghost use Rattle.apl_model_laws.specs.Lawful.{ShapesAreTested, LiteralsAreLawful, MonadicValuesAreLawful, DyadicValuesAreLawful, ReductionsAreLawful, OuterProductsAreLawful, InnerProductsAreLawful, SubscriptsAreLawful, ReplacementsAreLawful, ExpressionsAreLawful, PositionsAreLawful, StatementsAreLawful, FunctionsAreLawful, RunsAreLawful, ScriptsHaveLawfulItems, ImmediateIsLawful};
 
 /// The test of a shape is true exactly of lengths that make one.
 pub fn shapes_are_tested()
@@ -70,4 +70,14 @@ pub fn functions_are_lawful()
 /// A run of items of the language leaves lawful variables.
 pub fn runs_are_lawful()
     ensures { RunsAreLawful }
+{}
+
+/// The items of a script are items of the language, where a number of the language counts its lines.
+pub fn scripts_have_lawful_items()
+    ensures { ScriptsHaveLawfulItems }
+{}
+
+/// Immediate evaluation of such a script leaves lawful globals, and the origin 0 or 1.
+pub fn immediate_is_lawful()
+    ensures { ImmediateIsLawful }
 {}
