@@ -44,6 +44,11 @@ impl Shape {
         })
     }
 
+    /// The allocator that the shape was made with.
+    pub fn allocator(&self) -> Global {
+        *self.lengths.allocator()
+    }
+
     /// The same lengths again. It takes no memory.
     pub fn copy(&self) -> Shape
         ensures { result ≡ self.now }

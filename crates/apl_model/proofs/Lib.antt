@@ -5,3 +5,10 @@ pub mod Unique
 pub mod Order
 pub mod Decide
 pub mod Accepted
+pub mod Rows
+pub mod GrammarRows
+pub mod ReadingRows
+pub mod DefinitionRows
+pub mod DepthRow
+pub mod ClassRow
+pub mod AcceptedItems

@@ -1,11 +1,15 @@
 -- Worked examples of tokens and of the trees of lines.
-use Rattle.std.specs.Prelude.{◌≡◌, ℕ, suc, List, [], ◌∷◌, codes, ℤ, pos, neg_ℤ, map}
+use Rattle.std.specs.Prelude.{◌≡◌, ℕ, zero, suc, List, [], ◌∷◌, ◌++◌, codes, ℤ, pos, neg_ℤ, map}
 use Prim.Native.String.{String}
 use Rattle.apl_base.specs.declared.cells.Kind.TheVariants as kind
 use Rattle.apl_base.specs.declared.faults.Place.{Place}
 use Rattle.apl_base.specs.declared.rows.Dya.TheVariants as dya
 use Rattle.apl_model.specs.Characters.{code}
 use Rattle.apl_model.specs.Grammar.{IsStatement}
+use Rattle.apl_base.specs.declared.faults.Cause.{Cause}
+use Rattle.apl_base.specs.declared.faults.Cause.TheVariants as cause
+use Rattle.std.specs.Str.{encode_utf8_all}
+use Rattle.apl_model.specs.Refusal.{refusal, IsRefusal, IsFirst}
 use Rattle.apl_model.specs.Spelling.{Spell, statement_spelling}
 use Rattle.apl_model.specs.Tokens.{tokens}
 use Rattle.apl_model.specs.Tree.{Tree, constant, variable, call, parenthesis, monadic, dyadic, reduction, outer_product, inner_product, subscript, assignment, indexed_assignment, output, elided, given, no_position, position, Statement, nothing, branch, expression}
@@ -150,3 +154,95 @@ SpellingOfParenthesis = HasStatement [] "(A)[1]" (expression (subscript (parenth
 -- functions of no, one and two arguments are called with that many
 abbrev pub SpellingOfCalls : Type 0
 SpellingOfCalls = HasStatement functions "N G F A" (expression (call (codes "G") (given (call (codes "N") elided elided (at 1))) (given (call (codes "F") elided (given (variable (codes "A") (at 7))) (at 5))) (at 3)))
+
+-- ---- Refusals ----
+
+-- a script with these characters is refused first for this cause, at this line and column
+abbrev pub IsRefusedAt : List ℕ → Cause → ℕ → ℕ → Type 0
+IsRefusedAt cs c line column = IsFirst (IsRefusal (encode_utf8_all cs)) (refusal c line column)
+
+-- a parenthesis that is not closed: one column past the last token
+abbrev pub RefusalOfOpenParenthesis : Type 0
+RefusalOfOpenParenthesis = IsRefusedAt (codes "A←(1+2") cause.Grammar 1 7
+
+-- a function without its right argument: one column past the last token
+abbrev pub RefusalOfMissingArgument : Type 0
+RefusalOfMissingArgument = IsRefusedAt (codes "1++") cause.Grammar 1 4
+
+-- a ] that closes nothing: at the ]
+abbrev pub RefusalOfLoneBracket : Type 0
+RefusalOfLoneBracket = IsRefusedAt (codes "A]") cause.Grammar 1 2
+
+-- an axis of two numbers: at the literal
+abbrev pub RefusalOfTwoAxes : Type 0
+RefusalOfTwoAxes = IsRefusedAt (codes "⌽[1 2]3") cause.Grammar 1 3
+
+-- )ERASE without a name: one column past the last token
+abbrev pub RefusalOfEraseAlone : Type 0
+RefusalOfEraseAlone = IsRefusedAt (codes ")ERASE") cause.Grammar 1 7
+
+-- an origin that is neither 0 nor 1: at the number
+abbrev pub RefusalOfOriginTwo : Type 0
+RefusalOfOriginTwo = IsRefusedAt (codes ")ORIGIN 2") cause.Grammar 1 9
+
+-- )ORIGIN without a number: one column past the last token
+abbrev pub RefusalOfOriginAlone : Type 0
+RefusalOfOriginAlone = IsRefusedAt (codes ")ORIGIN") cause.Grammar 1 8
+
+-- a number with a point: at the word
+abbrev pub RefusalOfPoint : Type 0
+RefusalOfPoint = IsRefusedAt (codes "3.5") cause.Number 1 1
+
+-- a text that is not closed: at its quote
+abbrev pub RefusalOfOpenText : Type 0
+RefusalOfOpenText = IsRefusedAt (codes "'AB") cause.OpenText 1 1
+
+-- a character that is none of the language: at the character
+abbrev pub RefusalOfCharacter : Type 0
+RefusalOfCharacter = IsRefusedAt (codes "2@3") cause.Character 1 2
+
+-- the characters are looked at first, then the grammar: the second line's number comes before the first line's ]
+abbrev pub RefusalByPhase : Type 0
+RefusalByPhase = IsRefusedAt (codes "A]" ++ (10 ∷ codes "3.5")) cause.Number 2 1
+
+-- this many blanks
+unfoldable pub blanks : ℕ → List ℕ
+blanks zero = []
+blanks (suc n) = 32 ∷ blanks n
+
+-- a line of 1,001 characters: at column 1001
+abbrev pub RefusalOfLongLine : Type 0
+RefusalOfLongLine = IsRefusedAt (blanks 1001) cause.LineLong 1 1001
+
+-- the bytes 32 2B FF in hexadecimal: after the two characters before the ill-formed byte
+abbrev pub RefusalOfBytes : Type 0
+RefusalOfBytes = IsFirst (IsRefusal (0x32 ∷ 0x2B ∷ 0xFF ∷ [])) (refusal cause.Utf8 1 3)
+
+-- a script of 2^20 bytes and one more
+abbrev pub RefusalOfLength : Type 0
+RefusalOfLength = IsFirst (IsRefusal (blanks 1048577)) (refusal cause.TooLong 0 0)
+
+-- a definition that no line closes: at its ∇
+abbrev pub RefusalOfOpenDefinition : Type 0
+RefusalOfOpenDefinition = IsRefusedAt (codes "∇F") cause.OpenDefinition 1 1
+
+-- three names are a header, and a fourth is not: at the fourth
+abbrev pub RefusalOfFourNames : Type 0
+RefusalOfFourNames = IsRefusedAt (codes "∇F X Y Z" ++ (10 ∷ codes "∇")) cause.Header 1 8
+
+-- a name that is the result and the argument: where it comes the second time
+abbrev pub RefusalOfDoubleName : Type 0
+RefusalOfDoubleName = IsRefusedAt (codes "∇Z←F Z" ++ (10 ∷ codes "∇")) cause.DoubleName 1 6
+
+-- the same character so many times
+abbrev pub many : ℕ → ℕ → List ℕ
+many zero c = []
+many (suc n) c = c ∷ many n c
+
+-- 65 parentheses open at once: at the 65th
+abbrev pub RefusalOfDepth : Type 0
+RefusalOfDepth = IsRefusedAt (many 65 (code "(") ++ (code "1" ∷ many 65 (code ")"))) cause.Deep 1 65
+
+-- a function's name is assigned to: at the name
+abbrev pub RefusalOfFunctionAssigned : Type 0
+RefusalOfFunctionAssigned = IsRefusedAt (codes "∇F" ++ (10 ∷ codes "∇") ++ (10 ∷ codes "F←3")) cause.NameClass 3 1

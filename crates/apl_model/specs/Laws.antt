@@ -2,6 +2,7 @@
 use Rattle.std.specs.Prelude.{◌≡◌, ℕ, ◌↔◌, List, Option}
 use Rattle.apl_base.specs.declared.faults.Refusal.{Refusal}
 use Rattle.apl_model.specs.Grammar.{IsExpression, IsStatement, IsHeader}
+use Rattle.apl_model.specs.Items.{AreLawful}
 use Rattle.apl_model.specs.Refusal.{IsReadingRefusal, IsLineRefusal, IsRefusal, IsFirst, IsAccepted}
 use Rattle.apl_model.specs.Script.{IsScript}
 use Rattle.apl_model.specs.Spelling.{Spell, spelling, statement_spelling, body_spelling, command_spelling, header_spelling}
@@ -59,3 +60,7 @@ OneFirstLineRefusal = (ls : List Line) (r s : Refusal) → IsFirst (IsLineRefusa
 -- a script of bytes is accepted exactly where it has no refusal
 abbrev pub AcceptedExactly : Type 0
 AcceptedExactly = (bytes : List ℕ) → ((s : Script) × IsAccepted bytes s) ↔ ((r : Refusal) → ¬ (IsRefusal bytes r))
+
+-- the items of each accepted script are well formed
+abbrev pub AcceptedItems : Type 0
+AcceptedItems = (bytes : List ℕ) (s : Script) → IsAccepted bytes s → AreLawful s.items

@@ -5,6 +5,7 @@ pub mod Evaluation
 pub mod Examples
 pub mod Grammar
 pub mod Immediate
+pub mod Items
 pub mod Laws
 pub mod Lift
 pub mod Lines

@@ -1,5 +1,5 @@
 //! Worked examples of the definitions. Each function does nothing: its contract is a row of examples.
-ghost use Rattle.apl_model.specs.Examples.{TokensOfNames, TokensOfNumbers, TokensOfTexts, TokensOfComments, TokensOfOtherSpellings, TokensOfGlyphs, TokensOfBlanks, TokensOfNothing, TokensOfHeader, TokensOfCommand, SpellingOfNothing, SpellingOfBranch, SpellingOfDyadic, SpellingOfMonadic, SpellingOfAxis, SpellingOfCompress, SpellingOfReduction, SpellingOfOuter, SpellingOfInner, SpellingOfSubscript, SpellingOfAssignment, SpellingOfIndexedAssignment, SpellingOfOutput, SpellingOfParenthesis, SpellingOfCalls};
+ghost use Rattle.apl_model.specs.Examples.{TokensOfNames, TokensOfNumbers, TokensOfTexts, TokensOfComments, TokensOfOtherSpellings, TokensOfGlyphs, TokensOfBlanks, TokensOfNothing, TokensOfHeader, TokensOfCommand, SpellingOfNothing, SpellingOfBranch, SpellingOfDyadic, SpellingOfMonadic, SpellingOfAxis, SpellingOfCompress, SpellingOfReduction, SpellingOfOuter, SpellingOfInner, SpellingOfSubscript, SpellingOfAssignment, SpellingOfIndexedAssignment, SpellingOfOutput, SpellingOfParenthesis, SpellingOfCalls, RefusalOfLength, RefusalOfBytes, RefusalOfLongLine, RefusalOfCharacter, RefusalOfPoint, RefusalOfOpenText, RefusalByPhase, RefusalOfFourNames, RefusalOfDoubleName, RefusalOfOpenDefinition, RefusalOfFunctionAssigned, RefusalOfDepth, RefusalOfOpenParenthesis, RefusalOfMissingArgument, RefusalOfLoneBracket, RefusalOfTwoAxes, RefusalOfEraseAlone, RefusalOfOriginTwo, RefusalOfOriginAlone};
 
 /// The tokens of ten lines.
 pub fn tokens_of_ten_lines()
@@ -32,4 +32,35 @@ pub fn trees_of_fifteen_lines()
     ensures output { SpellingOfOutput }
     ensures parenthesis { SpellingOfParenthesis }
     ensures calls { SpellingOfCalls }
+{}
+
+/// The refusals of seven scripts for their bytes and characters.
+pub fn refusals_of_bytes_and_characters()
+    ensures length { RefusalOfLength }
+    ensures bytes { RefusalOfBytes }
+    ensures long_line { RefusalOfLongLine }
+    ensures character { RefusalOfCharacter }
+    ensures point { RefusalOfPoint }
+    ensures open_text { RefusalOfOpenText }
+    ensures by_phase { RefusalByPhase }
+{}
+
+/// The refusals of four scripts for their definitions and names.
+pub fn refusals_of_definitions()
+    ensures four_names { RefusalOfFourNames }
+    ensures double_name { RefusalOfDoubleName }
+    ensures open_definition { RefusalOfOpenDefinition }
+    ensures function_assigned { RefusalOfFunctionAssigned }
+{}
+
+/// The refusals of eight lines for their depth and their grammar.
+pub fn refusals_of_lines()
+    ensures depth { RefusalOfDepth }
+    ensures open_parenthesis { RefusalOfOpenParenthesis }
+    ensures missing_argument { RefusalOfMissingArgument }
+    ensures lone_bracket { RefusalOfLoneBracket }
+    ensures two_axes { RefusalOfTwoAxes }
+    ensures erase_alone { RefusalOfEraseAlone }
+    ensures origin_two { RefusalOfOriginTwo }
+    ensures origin_alone { RefusalOfOriginAlone }
 {}

@@ -1,5 +1,5 @@
 //! What holds of the definitions. Each function does nothing: its contract is a law.
-ghost use Rattle.apl_model.specs.Laws.{OneListOfTokens, OneExpression, OneStatement, OneBodyLine, OneCommand, OneHeader, OneScript, OneFirstRefusal, OneFirstReadingRefusal, OneFirstLineRefusal, AcceptedExactly};
+ghost use Rattle.apl_model.specs.Laws.{OneListOfTokens, OneExpression, OneStatement, OneBodyLine, OneCommand, OneHeader, OneScript, OneFirstRefusal, OneFirstReadingRefusal, OneFirstLineRefusal, AcceptedExactly, AcceptedItems};
 
 /// A line has at most one list of tokens.
 pub fn one_list_of_tokens()
@@ -54,4 +54,9 @@ pub fn one_first_line_refusal()
 /// A script of bytes is accepted exactly where it has no refusal.
 pub fn accepted_exactly()
     ensures { AcceptedExactly }
+{}
+
+/// The items of each accepted script are well formed.
+pub fn accepted_items()
+    ensures { AcceptedItems }
 {}

@@ -11,12 +11,15 @@ mod texts;
 mod tokens;
 mod trees;
 
-pub use examples::{tokens_of_ten_lines, trees_of_fifteen_lines};
+pub use examples::{
+    refusals_of_bytes_and_characters, refusals_of_definitions, refusals_of_lines,
+    tokens_of_ten_lines, trees_of_fifteen_lines,
+};
 pub use functions::{Axis, DyaFn, MonFn};
 pub use laws::{
-    accepted_exactly, one_body_line, one_command, one_expression, one_first_line_refusal,
-    one_first_reading_refusal, one_first_refusal, one_header, one_list_of_tokens, one_script,
-    one_statement,
+    accepted_exactly, accepted_items, one_body_line, one_command, one_expression,
+    one_first_line_refusal, one_first_reading_refusal, one_first_refusal, one_header,
+    one_list_of_tokens, one_script, one_statement,
 };
 pub use outlines::{Outline, OutlineBody, OutlineItem, OutlineLine};
 pub use scripts::{BodyLine, Command, Definition, Header, Script, ScriptItem};

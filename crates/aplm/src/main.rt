@@ -4,10 +4,9 @@
 
 use apl_outside::{StdSink, StdSource};
 use apl_run::{Status, aplm};
-use std::env;
-use std::io;
 use std::process::ExitCode;
 use std::rt::Env;
+use std::{env, io};
 
 /// The words after the program's name.
 fn words_of(rt: &(impl Env + AllocGlobal)) -> io::Result<Vec<String>> {

@@ -1,5 +1,6 @@
 pub mod Algebra
 pub mod Transposition
+pub mod Canon
 pub mod Ends
 pub mod Indices
 pub mod Kept

@@ -37,15 +37,15 @@ impl Model for Desc {
 
 impl Desc {
     /// The places of a shape's elements in row-major order, counted from 0. It takes no memory.
-    pub fn whole(alloc: Global, shape: &Shape) -> Desc
+    pub fn whole(shape: &Shape) -> Desc
         ensures shape { result.shape ≡ shape.now }
         ensures places { (i : List ℕ) → IsIndex shape.now i → number_of result i ≡ pos (place_at shape.now i) }
         ensures lawful { IsDesc result }
     {
         Parts {
             base: 0,
-            strides: row_strides_of(alloc, shape.lengths()),
-            lengths: held_inline(alloc, shape.lengths()),
+            strides: row_strides_of(shape.allocator(), shape.lengths()),
+            lengths: held_inline(shape.allocator(), shape.lengths()),
         }
         .settled()
     }

@@ -3,9 +3,13 @@
 
 mod desc;
 mod diagonals;
+mod laws;
 mod lists;
 mod parts;
 mod selections;
 mod steps;
+#[cfg(test)]
+mod tests;
 
 pub use desc::Desc;
+pub use laws::{determined, worked_numbers};

@@ -116,14 +116,13 @@ fn start_of(taking: bool, n: u64, count: i64) -> u64
     requires { unsigned_abs count ≤ n }
     ensures { result ≡ window_start taking n count }
 {
-    if taking == (count < 0) {
-        if taking {
-            n - count.unsigned_abs()
-        } else {
-            count.unsigned_abs()
-        }
-    } else {
+    if taking && count < 0 {
+        return n - count.unsigned_abs();
+    }
+    if taking || count < 0 {
         0
+    } else {
+        count.unsigned_abs()
     }
 }
 

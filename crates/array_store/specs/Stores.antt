@@ -10,12 +10,14 @@ use Rattle.apl_base.specs.Number.{IsCell}
 use Rattle.array_store.specs.declared.ids.Counts.{Counts}
 use Rattle.apl_base.specs.Interval.{InInterval, IsInterval, hull, exact_interval}
 
+-- an owner: its cells, what they are, how many hold it, and an interval in which the cells lie
 pub record OwnerView : Type 0 where
   pub cells : List ℤ
   pub kind : Kind
   pub holders : ℕ
   pub interval : Interval
 
+-- the owners by their keys, the number of all their cells, the limit of that number, and what was counted
 pub record StoreView : Type 0 where
   pub owners : List (Option OwnerView)
   pub live : ℕ
@@ -24,6 +26,7 @@ pub record StoreView : Type 0 where
 
 -- ---- look-ups
 
+-- the owner at a key, if there is one
 abbrev pub owner_at : StoreView → ℕ → Option OwnerView
 owner_at s key = slice_index_or s.owners key None
 
@@ -31,6 +34,7 @@ owner_at s key = slice_index_or s.owners key None
 abbrev pub no_owner : OwnerView
 no_owner = record { cells = []; kind = Num; holders = 0; interval = Empty }
 
+-- the owner at a key
 abbrev pub owner_of : StoreView → ℕ → OwnerView
 owner_of s key = unwrap_or (owner_at s key) no_owner
 
@@ -38,15 +42,19 @@ owner_of s key = unwrap_or (owner_at s key) no_owner
 abbrev pub holders_of : StoreView → ℕ → ℕ
 holders_of s key = (owner_of s key).holders
 
+-- its cells; none where there is no such owner
 abbrev pub cells_of : StoreView → ℕ → List ℤ
 cells_of s key = (owner_of s key).cells
 
+-- what its cells are
 abbrev pub kind_of : StoreView → ℕ → Kind
 kind_of s key = (owner_of s key).kind
 
+-- the interval that is kept for it
 abbrev pub interval_of : StoreView → ℕ → Interval
 interval_of s key = (owner_of s key).interval
 
+-- its cell at a place
 abbrev pub cell_of : StoreView → ℕ → ℕ → ℤ
 cell_of s key place = slice_index_or (cells_of s key) place (pos 0)
 
@@ -59,21 +67,25 @@ pub record OwnerData : Type 0 where
 abbrev pub owner_data : OwnerView → OwnerData
 owner_data o = record { cells = o.cells; kind = o.kind; interval = o.interval }
 
+-- the data of the owner at a key, if there is one
 abbrev pub data_at : StoreView → ℕ → Option OwnerData
 data_at s key = option_map owner_data (owner_at s key)
 
 -- ---- what is so of every store
 
+-- each cell is lawful for the kind and lies in the interval, the interval is one of numbers, and somebody holds it
 pub record IsOwner (o : OwnerView) : Type 0 where
   pub lawful : All (IsCell o.kind) o.cells
   pub within : All (InInterval o.interval) o.cells
   pub interval : IsInterval o.interval
   pub held : 0 < o.holders
 
+-- how many cells a slot has
 abbrev pub cells_in : Option OwnerView → ℕ
 cells_in None = 0
 cells_in (Some o) = length o.cells
 
+-- each owner is lawful, and the live cells are all their cells and at most the limit
 pub record IsStore (s : StoreView) : Type 0 where
   pub owners : (key : ℕ) (o : OwnerView) → owner_at s key ≡ Some o → IsOwner o
   pub live : s.live ≡ sum_by cells_in s.owners
@@ -85,15 +97,19 @@ pub record IsStore (s : StoreView) : Type 0 where
 abbrev pub counted : ℕ → ℕ → ℕ
 counted n k = min (n + k) (2 ^ 64 - 1)
 
+-- no owner, and nothing counted
 abbrev pub empty_store : ℕ → StoreView
 empty_store limit = record { owners = []; live = 0; limit = limit; counts = record { fetched = 0; made = 0; applied = 0 } }
 
+-- this owner in the place of the one at the key
 abbrev pub with_owner : StoreView → ℕ → OwnerView → StoreView
 with_owner s key o = record s { owners = slice_set s.owners key (Some o) }
 
+-- the owner at the key gone, with its cells
 abbrev pub without_owner : StoreView → ℕ → StoreView
 without_owner s key = record s { owners = slice_set s.owners key None; live = s.live - length (cells_of s key) }
 
+-- the owner at the key with this many holders
 abbrev pub with_holders : StoreView → ℕ → ℕ → StoreView
 with_holders s key n = with_owner s key (record (owner_of s key) { holders = n })
 

@@ -1,0 +1,12 @@
+pub mod Calls
+pub mod Commands
+pub mod Errors
+pub mod Made
+pub mod Origins
+pub mod Products
+pub mod Scalars
+pub mod Selections
+pub mod Subscripts
+pub mod Sums
+pub mod Texts
+pub mod Words

@@ -1,0 +1,68 @@
+-- Scripts: functions of whole arrays.
+use Rattle.std.specs.Prelude.{◌∷◌, []}
+use Rattle.apl_model.specs.declared.functions.Axis.TheVariants as axis
+use Rattle.apl_model.specs.declared.functions.DyaFn.TheVariants as two
+use Rattle.apl_model.specs.declared.functions.MonFn.TheVariants as one
+use Rattle.apl_model.specs.Tree.{Script, monadic, dyadic, expression, statement_item}
+use Rattle.apl_model_examples.specs.Words.{script, at, number, numbers, integers, negative}
+
+-- taking more than there is pads, from the end too; dropping more leaves nothing
+abbrev pub taking_pads_and_dropping_stops : Script
+taking_pads_and_dropping_stops = script ("¯5↑1 2 3" ∷ "5↓1 2" ∷ [])
+    (statement_item 1 (expression (dyadic two.Take (integers ((negative 5) ∷ []) (at 1 1)) (numbers (1 ∷ 2 ∷ 3 ∷ []) (at 1 4)) (at 1 3)))
+    ∷ statement_item 2 (expression (dyadic two.Skip (number 5 (at 2 1)) (numbers (1 ∷ 2 ∷ []) (at 2 3)) (at 2 2)))
+    ∷ [])
+
+-- digits in mixed bases, and the value of digits
+abbrev pub digits_and_their_value : Script
+digits_and_their_value = script ("24 60 60⊤3723" ∷ "24 60 60⊥1 2 3" ∷ [])
+    (statement_item 1 (expression (dyadic two.Encode (numbers (24 ∷ 60 ∷ 60 ∷ []) (at 1 1)) (number 3723 (at 1 10)) (at 1 9)))
+    ∷ statement_item 2 (expression (dyadic two.Decode (numbers (24 ∷ 60 ∷ 60 ∷ []) (at 2 1)) (numbers (1 ∷ 2 ∷ 3 ∷ []) (at 2 10)) (at 2 9)))
+    ∷ [])
+
+-- expand, index of, grade up, grade down, membership, rotate, catenate and ravel
+abbrev pub eight_functions_of_vectors : Script
+eight_functions_of_vectors = script ("1 0 1\\5 7"
+    ∷ "3 1 2⍳2 9"
+    ∷ "⍋3 1 2"
+    ∷ "⍒3 1 3"
+    ∷ "1 5∈5 6"
+    ∷ "1⌽1 2 3"
+    ∷ "1 2,3"
+    ∷ ",2 2⍴⍳4"
+    ∷ [])
+    (statement_item 1 (expression (dyadic (two.Expand axis.Last) (numbers (1 ∷ 0 ∷ 1 ∷ []) (at 1 1)) (numbers (5 ∷ 7 ∷ []) (at 1 7)) (at 1 6)))
+    ∷ statement_item 2 (expression (dyadic two.IndexOf (numbers (3 ∷ 1 ∷ 2 ∷ []) (at 2 1)) (numbers (2 ∷ 9 ∷ []) (at 2 7)) (at 2 6)))
+    ∷ statement_item 3 (expression (monadic one.GradeUp (numbers (3 ∷ 1 ∷ 2 ∷ []) (at 3 2)) (at 3 1)))
+    ∷ statement_item 4 (expression (monadic one.GradeDown (numbers (3 ∷ 1 ∷ 3 ∷ []) (at 4 2)) (at 4 1)))
+    ∷ statement_item 5 (expression (dyadic two.Member (numbers (1 ∷ 5 ∷ []) (at 5 1)) (numbers (5 ∷ 6 ∷ []) (at 5 5)) (at 5 4)))
+    ∷ statement_item 6 (expression (dyadic (two.Rotate axis.Last) (number 1 (at 6 1)) (numbers (1 ∷ 2 ∷ 3 ∷ []) (at 6 3)) (at 6 2)))
+    ∷ statement_item 7 (expression (dyadic two.Catenate (numbers (1 ∷ 2 ∷ []) (at 7 1)) (number 3 (at 7 5)) (at 7 4)))
+    ∷ statement_item 8
+    (expression
+    (monadic one.Ravel (dyadic two.Reshape (numbers (2 ∷ 2 ∷ []) (at 8 2)) (monadic one.Iota (number 4 (at 8 7)) (at 8 6)) (at 8 5)) (at 8 1)))
+    ∷ [])
+
+-- a negative length is a DOMAIN ERROR
+abbrev pub a_negative_length : Script
+a_negative_length = script ("¯1⍴2" ∷ [])
+    (statement_item 1 (expression (dyadic two.Reshape (integers ((negative 1) ∷ []) (at 1 1)) (number 2 (at 1 4)) (at 1 3)))
+    ∷ [])
+
+-- an empty array gives no elements to a shape that has some
+abbrev pub nothing_has_no_two_elements : Script
+nothing_has_no_two_elements = script ("2⍴⍳0" ∷ [])
+    (statement_item 1 (expression (dyadic two.Reshape (number 2 (at 1 1)) (monadic one.Iota (number 0 (at 1 4)) (at 1 3)) (at 1 2)))
+    ∷ [])
+
+-- ∊ is another spelling of ∈
+abbrev pub a_second_spelling_of_membership : Script
+a_second_spelling_of_membership = script ("1 5∊5 6" ∷ [])
+    (statement_item 1 (expression (dyadic two.Member (numbers (1 ∷ 5 ∷ []) (at 1 1)) (numbers (5 ∷ 6 ∷ []) (at 1 5)) (at 1 4)))
+    ∷ [])
+
+-- a vector longer than 2 to the power 40 is a LIMIT ERROR
+abbrev pub more_than_the_greatest_length : Script
+more_than_the_greatest_length = script ("⍳1099511627777" ∷ [])
+    (statement_item 1 (expression (monadic one.Iota (number 1099511627777 (at 1 2)) (at 1 1)))
+    ∷ [])
