@@ -1,3 +1,10 @@
-pub mod Kept
-pub mod Counted
+pub mod Arrays
+pub mod Axes
 pub mod Behind
+pub mod Counted
+pub mod Forms
+pub mod Kept
+pub mod Safe
+pub mod Scripts
+pub mod Transposes
+pub mod Values

@@ -1,2 +1,3 @@
-pub mod Turns
+pub mod Lawful
 pub mod Printing
+pub mod Turns
