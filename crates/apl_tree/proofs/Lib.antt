@@ -1,0 +1,12 @@
+pub mod Cuts
+pub mod Heads
+pub mod Labels
+pub mod Opened
+pub mod Places
+pub mod Runs
+pub mod Shown
+pub mod SortFacts
+pub mod Sound
+pub mod SplitTokens
+pub mod Tails
+pub mod Words

@@ -1,0 +1,17 @@
+//! Reads the tokens of a line as a statement: its tree, or the place of its refusal.
+//!
+//! The reader goes over the tokens once, from left to right. It keeps what is open, and gives the tree at the end.
+#![tactic(auto)]
+
+mod arguments;
+mod glyphs;
+mod opens;
+mod reader;
+mod sorts;
+mod statements;
+mod steps;
+#[cfg(test)]
+mod tests;
+mod waits;
+
+pub use statements::statement;
