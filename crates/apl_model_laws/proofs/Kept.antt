@@ -145,7 +145,7 @@ module _ (S : Type 0) (meaning : Calls → S → State → Outcome Flow) (R : St
     leads_line None s next h = leads_done k tt s
     leads_line (Some l) s next h = leads_then k (leads_turn k l.line (meaning calls l.statement) (means calls kept l.statement) s.turns s refl) h
 
-    leads_lines : (body : List (RoutineLine S)) (n : ℕ) (i : ℤ) (s : State) → Leads R s (run_lines S meaning calls body n i s)
+    pub leads_lines : (body : List (RoutineLine S)) (n : ℕ) (i : ℤ) (s : State) → Leads R s (run_lines S meaning calls body n i s)
     leads_lines body zero i s = leads_line (line_at body i) s (λ flow t. spent t) (λ flow t. record { to = k.same t })
     leads_lines body (suc n) i s =
         leads_line (line_at body i) s (λ flow t. run_lines S meaning calls body n (next_line i flow) t) (λ flow t. leads_lines body n (next_line i flow) t)
@@ -158,7 +158,7 @@ module _ (S : Type 0) (meaning : Calls → S → State → Outcome Flow) (R : St
         leads_then k lines (λ _ t. record { to = k.variables t (without_frame t).variables }) in
         record { to = k.onward s inside _ (k.variables s inside.variables) all.to }
 
-    leads_found : (r : Option (Routine S)) (place : Place) (left right : Option Array) (s : State) → Leads R s (run_found S meaning calls r place left right s)
+    pub leads_found : (r : Option (Routine S)) (place : Place) (left right : Option Array) (s : State) → Leads R s (run_found S meaning calls r place left right s)
     leads_found None place left right s = record { to = k.same s }
     leads_found (Some r) place left right s = leads_routine r left right s
 

@@ -4,6 +4,7 @@ pub mod Behind
 pub mod Counted
 pub mod Forms
 pub mod Kept
+pub mod Onwards
 pub mod Safe
 pub mod Scripts
 pub mod Transposes

@@ -1,3 +1,4 @@
 pub mod Lawful
+pub mod Longer
 pub mod Printing
 pub mod Turns

@@ -2,6 +2,7 @@
 #![tactic(auto)]
 
 mod lawful;
+mod longer;
 mod printing;
 mod turns;
 
@@ -12,6 +13,7 @@ pub use lawful::{
     replacements_are_lawful, runs_are_lawful, scripts_have_lawful_items, shapes_are_tested,
     statements_are_lawful, subscripts_are_lawful,
 };
+pub use longer::{functions_go_on, runs_go_on};
 pub use printing::{
     bytes_begin_with_their_prefixes, expressions_keep_printed, expressions_print_behind,
     functions_keep_printed, functions_print_behind, positions_print_behind,
