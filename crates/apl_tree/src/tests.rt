@@ -1,6 +1,7 @@
-use crate::statements::{Reading, read};
+use crate::statements::{Reading, read, statement};
 use apl_base::{Cell, Name, Place};
 use apl_model::{Classes, Expr, Heading, Statement, Token, Word};
+use apl_read::{ReadFault, tokens};
 use sqlite_items::Items;
 use std::alloc::Global;
 use std::fmt::Write;
@@ -437,5 +438,41 @@ fn long_lines_are_read(rt: HostRuntime) -> Result<(), Fail> {
         let answer = answer(alloc, &classes, text)?;
         assert!(rt; !answer.as_str().starts_with("!"), "{text}");
     }
+    Ok(())
+}
+
+/// What is said of the first line of a script, where it has one.
+fn first_statement(
+    alloc: Global,
+    script: &str,
+) -> Result<Option<Result<Statement, ReadFault>>, Fail> {
+    let classes = Classes {
+        headings: Items::new(alloc),
+    };
+    let Ok(lines) = tokens(alloc, script.as_bytes()) else {
+        return Ok(None);
+    };
+    match lines.lines.as_slice() {
+        [] => Ok(None),
+        [line, ..] => Ok(Some(statement(alloc, line, &classes))),
+    }
+}
+
+/// The place of a script's first line where it stops being a statement, `0 0` where it is one.
+fn stop(alloc: Global, script: &str) -> Result<(u32, u32), Fail> {
+    match first_statement(alloc, script)?.ok_or("a line")? {
+        Ok(_) => Ok((0, 0)),
+        Err(ReadFault::Refused { refusal }) => Ok((refusal.line, refusal.column)),
+        Err(ReadFault::NoMemory) => Err("memory")?,
+    }
+}
+
+#[test]
+fn lines_of_scripts_are_statements(rt: HostRuntime) -> Result<(), Fail> {
+    assert_eq!(rt; stop(rt.alloc(), "A←1+2")?, (0, 0));
+    assert_eq!(rt; stop(rt.alloc(), "A←(1+2")?, (1, 7));
+    assert_eq!(rt; stop(rt.alloc(), "1++")?, (1, 4));
+    assert_eq!(rt; stop(rt.alloc(), "A]")?, (1, 2));
+    assert_eq!(rt; stop(rt.alloc(), "⌽[1 2]3")?, (1, 3));
     Ok(())
 }
