@@ -13,6 +13,3 @@ pub use laws::{meaning_laws, store_laws};
 pub use leaves::{Leaf, leaf_interval};
 pub use nodes::Node;
 pub use segments::{Segment, join1, join2};
-
-#[cfg(test)]
-mod tests;
