@@ -109,14 +109,14 @@ numbers_or-form : (sh : List ℕ) (p : Place) (shape : List ℕ) (o : Option (Li
 numbers_or-form sh p shape None e h = tt
 numbers_or-form sh p shape (Some es) e h = record { shape = e; count = length-mapped (λ e. e.cell) es ∙ h }
 
-applied1-form : (sh : List ℕ) (f : Mon) (p : Place) (b : Array) → HasForm sh b → FormIf sh (applied1 f p b)
+pub applied1-form : (sh : List ℕ) (f : Mon) (p : Place) (b : Array) → HasForm sh b → FormIf sh (applied1 f p b)
 applied1-form sh f p b h =
     let many : length (map (scalar1 f) (elements b)) ≡ size_of sh =
     length-mapped (scalar1 f) (elements b) ∙ length-mapped (λ c. record { kind = b.kind; cell = c }) b.cells ∙ h.count in
     numbers_or-form sh p b.shape (all_defined (map (scalar1 f) (elements b))) h.shape
     (subst (λ (n : ℕ). CountIf n (all_defined (map (scalar1 f) (elements b)))) many (all_defined-count (map (scalar1 f) (elements b))))
 
-applied2-form : (sh : List ℕ) (f : Dya) (p : Place) (a b : Array) → HasForm sh a → HasForm sh b → FormIf sh (applied2 f p a b)
+pub applied2-form : (sh : List ℕ) (f : Dya) (p : Place) (a b : Array) → HasForm sh a → HasForm sh b → FormIf sh (applied2 f p a b)
 applied2-form sh f p a b g h =
     let pairs : List (Option Elem) = map (λ (q : Elem × Elem). scalar2 f q.0 q.1) (zip (elements a) (elements b)) in
     let many : length pairs ≡ size_of sh =
@@ -127,7 +127,7 @@ applied2-form sh f p a b g h =
     numbers_or-form sh p b.shape (all_defined pairs) h.shape
     (subst (λ (n : ℕ). CountIf n (all_defined pairs)) many (all_defined-count pairs))
 
-leaf_array-form : (s : StoreView) (sh : List ℕ) (leaf : Leaf) → HasForm sh (leaf_array s sh leaf)
+pub leaf_array-form : (s : StoreView) (sh : List ℕ) (leaf : Leaf) → HasForm sh (leaf_array s sh leaf)
 leaf_array-form s sh leaf = record {
   shape = refl;
   count = length-mapped (λ p. leaf_cell s leaf (index_at sh p)) (upward 0 (size_of sh)) ∙ length-upward 0 (size_of sh);

@@ -2,3 +2,5 @@ pub mod Nodes
 pub mod Segments
 pub mod Meaning
 pub mod Lawful
+pub mod Laws
+pub mod Examples

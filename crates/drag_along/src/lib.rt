@@ -2,10 +2,14 @@
 //! a scalar function joins its operands without computing an element.
 #![tactic(auto)]
 
+mod examples;
+mod laws;
 mod leaves;
 mod nodes;
 mod segments;
 
+pub use examples::meaning_examples;
+pub use laws::{meaning_laws, store_laws};
 pub use leaves::{Leaf, leaf_interval};
 pub use nodes::Node;
 pub use segments::{Segment, join1, join2};

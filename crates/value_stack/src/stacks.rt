@@ -90,9 +90,9 @@ impl Stack {
     pub fn pending_on(&self, owner: OwnerId, from: usize) -> Option<usize>
         ensures { IsLeastOrNone (Reads owner) self.now from result }
     {
-        for at in from..self.entries.len() {
-            if self.entries[at].names(owner) {
-                return Some(at);
+        for position in from..self.entries.len() {
+            if self.entries[position].names(owner) {
+                return Some(position);
             }
         }
         None
