@@ -36,11 +36,12 @@ behind s sh x xs us vs here (pending ws) rest = λ i index.
     no_fault : (i : List ℕ) → IsIndex sh i → (k : ℕ) → fails_at s i (x ∷ xs) k (column i us) ≡ false
     no_fault i index zero = (here i index).1
     no_fault i index (suc k) = ap (fails_at s i xs k) (here i index).0 ∙ (rest i index).1 k
-behind s sh x xs us vs here (stopped p) rest =
-    (suc rest.0,
-    (rest.1.0, rest.1.1, ap (fails_at s rest.1.0 xs rest.0) (here rest.1.0 rest.1.1).0 ∙ rest.1.2),
-    λ j below i index. before j below i index,
-    rest.3)
+behind s sh x xs us vs here (stopped p) rest = (
+  suc rest.0,
+  (rest.1.0, rest.1.1, ap (fails_at s rest.1.0 xs rest.0) (here rest.1.0 rest.1.1).0 ∙ rest.1.2),
+  λ j below i index. before j below i index,
+  rest.3,
+)
   where
     before : (j : ℕ) → j < suc rest.0 → (i : List ℕ) → IsIndex sh i → fails_at s i (x ∷ xs) j (column i us) ≡ false
     before zero below i index = (here i index).1
@@ -97,11 +98,11 @@ one_array : (s : StoreView) (g : SegmentView) (a b : Array) → IsItsArray s g a
 one_array s g a b h i =
     same_array a b (h.kind ∙ sym i.kind) (h.shape ∙ sym i.shape)
     (ext_get_or (pos 0) a.cells b.cells (h.count ∙ sym i.count) (λ k below.
-      let within : k < size_of g.shape = omega (arith, below, h.count) in
-      let index = IsIndex-index_at g.shape k within in
-      sym (cell_by_place g.shape a k h.shape within)
-      ∙ same_cell a.kind b.kind (cell_at a (index_at g.shape k)) (cell_at b (index_at g.shape k)) (sym (h.cells (index_at g.shape k) index) ∙ i.cells (index_at g.shape k) index)
-      ∙ cell_by_place g.shape b k i.shape within))
+    let within : k < size_of g.shape = omega (arith, below, h.count) in
+    let index = IsIndex-index_at g.shape k within in
+    sym (cell_by_place g.shape a k h.shape within)
+    ∙ same_cell a.kind b.kind (cell_at a (index_at g.shape k)) (cell_at b (index_at g.shape k)) (sym (h.cells (index_at g.shape k) index) ∙ i.cells (index_at g.shape k) index)
+    ∙ cell_by_place g.shape b k i.shape within))
 
 tell : (m n : ℕ) → (m < n) ⊎ ((m ≡ n) ⊎ (n < m))
 tell zero zero = inr (inl refl)

@@ -94,17 +94,20 @@ after_nodes-kept old new sh (x ∷ xs) st same =
 
 leaves_kept : (old new : StoreView) (xs : List Node) → SameData old new (named_by_nodes xs) → AllLeaves (IsLawfulLeaf old) xs → AllLeaves (IsLawfulLeaf new) xs
 leaves_kept old new [] same h = tt
-leaves_kept old new (Operand leaf ∷ xs) same h =
-    (lawful_leaf_kept old new leaf (fewer old new (named_by_leaf leaf) (named_by_nodes (Operand leaf ∷ xs)) (λ key. omega arith) same) h.0,
-    leaves_kept old new xs (fewer old new (named_by_nodes xs) (named_by_nodes (Operand leaf ∷ xs)) (named-rest (Operand leaf) xs) same) h.1)
+leaves_kept old new (Operand leaf ∷ xs) same h = (
+  lawful_leaf_kept old new leaf (fewer old new (named_by_leaf leaf) (named_by_nodes (Operand leaf ∷ xs)) (λ key. omega arith) same) h.0,
+  leaves_kept old new xs (fewer old new (named_by_nodes xs) (named_by_nodes (Operand leaf ∷ xs)) (named-rest (Operand leaf) xs) same) h.1,
+)
 leaves_kept old new (One f p ∷ xs) same h = leaves_kept old new xs same h
 leaves_kept old new (Two f p ∷ xs) same h = leaves_kept old new xs same h
 
 pub segment_kept : (old new : StoreView) (segment : SegmentView) → SameData old new (named_by segment) → IsLawful old segment → IsLawful new segment × (entry new segment ≡ entry old segment)
 unfolding entry
 segment_kept old new segment same lawful =
-    let means = ap newest (after_nodes-kept old new segment.shape segment.nodes (pending []) same) in
-    (record {
-      leaves = leaves_kept old new segment.nodes same lawful.leaves;
-      sound = λ no. subst (MeansWithin segment.range) (sym means) (lawful.sound no);
-    }, means)
+    let means = ap newest (after_nodes-kept old new segment.shape segment.nodes (pending []) same) in (
+      record {
+        leaves = leaves_kept old new segment.nodes same lawful.leaves;
+        sound = λ no. subst (MeansWithin segment.range) (sym means) (lawful.sound no);
+      },
+      means,
+    )

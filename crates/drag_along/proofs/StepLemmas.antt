@@ -126,35 +126,41 @@ place_of_index sh a b k h g below =
     ap (λ (ns : List ℕ). place_at ns (index_at sh k)) h.shape ∙ place_at-index_at sh k (omega (arith, below, g.count))
 
 step1 : (s : StoreView) (sh : List ℕ) (f : Mon) (p : Place) (b : Array) (us : List Array) (o : Option (List Elem)) → HasForm sh b → AllByRecursion (HasForm sh) us → Each1 (scalar1 f) b.kind b.cells o → FormIf sh (numbers_or p b.shape o) → StepAgrees s sh (One f p) (b ∷ us) (put (numbers_or p b.shape o) us)
-step1 s sh f p b us (Some es) h hs each form =
-    ((form, hs), λ i index.
+step1 s sh f p b us (Some es) h hs each form = (
+  (form, hs),
+  λ i index.
       let found = each (place_at b.shape i) (place_within sh b b i h h index) in
-      (ap (λ (o : Option Elem). o ∷ column i us) found, ap (λ (o : Option Elem). is_none o) found))
+      (ap (λ (o : Option Elem). o ∷ column i us) found, ap (λ (o : Option Elem). is_none o) found),
+)
 step1 s sh f p b us None h hs each form =
     let k = each.0 in
     let at : scalar1 f (element_of b.kind (cell_at b (index_at sh k))) ≡ None =
-      ap (λ (n : ℕ). scalar1 f (element_of b.kind (get_or b.cells n (pos 0)))) (place_of_index sh b b k h h each.1) ∙ each.2 in
+    ap (λ (n : ℕ). scalar1 f (element_of b.kind (get_or b.cells n (pos 0)))) (place_of_index sh b b k h h each.1) ∙ each.2 in
     (index_at sh k, IsIndex-index_at sh k (omega (arith, each.1, h.count)), ap (λ (o : Option Elem). is_none o) at, refl)
 
 step2 : (s : StoreView) (sh : List ℕ) (f : Dya) (p : Place) (a b : Array) (us : List Array) (o : Option (List Elem)) → HasForm sh a → HasForm sh b → AllByRecursion (HasForm sh) us → Each2 (scalar2 f) a.kind b.kind a.cells b.cells o → FormIf sh (numbers_or p b.shape o) → StepAgrees s sh (Two f p) (a ∷ b ∷ us) (put (numbers_or p b.shape o) us)
-step2 s sh f p a b us (Some es) g h hs each form =
-    ((form, hs), λ i index.
+step2 s sh f p a b us (Some es) g h hs each form = (
+  (form, hs),
+  λ i index.
       let found : scalar2 f (element_of a.kind (cell_at a i)) (element_of b.kind (cell_at b i)) ≡ Some (element_of Num (get_or (map (λ e. e.cell) es) (place_at b.shape i) (pos 0))) =
-        ap (λ (ns : List ℕ). scalar2 f (element_of a.kind (get_or a.cells (place_at ns i) (pos 0))) (element_of b.kind (cell_at b i))) (g.shape ∙ sym h.shape)
-        ∙ each (place_at b.shape i) (place_within sh b b i h h index) in
-      (ap (λ (o : Option Elem). o ∷ column i us) found, ap (λ (o : Option Elem). is_none o) found))
+      ap (λ (ns : List ℕ). scalar2 f (element_of a.kind (get_or a.cells (place_at ns i) (pos 0))) (element_of b.kind (cell_at b i))) (g.shape ∙ sym h.shape)
+      ∙ each (place_at b.shape i) (place_within sh b b i h h index) in
+      (ap (λ (o : Option Elem). o ∷ column i us) found, ap (λ (o : Option Elem). is_none o) found),
+)
 step2 s sh f p a b us None g h hs each form =
     let k = each.0 in
     let at : scalar2 f (element_of a.kind (cell_at a (index_at sh k))) (element_of b.kind (cell_at b (index_at sh k))) ≡ None =
-      ap (λ (n : ℕ). scalar2 f (element_of a.kind (get_or a.cells n (pos 0))) (element_of b.kind (cell_at b (index_at sh k)))) (place_of_index sh a b k g h each.1)
-      ∙ ap (λ (n : ℕ). scalar2 f (element_of a.kind (get_or a.cells k (pos 0))) (element_of b.kind (get_or b.cells n (pos 0)))) (place_of_index sh b b k h h each.1)
-      ∙ each.2 in
+    ap (λ (n : ℕ). scalar2 f (element_of a.kind (get_or a.cells n (pos 0))) (element_of b.kind (cell_at b (index_at sh k)))) (place_of_index sh a b k g h each.1)
+    ∙ ap (λ (n : ℕ). scalar2 f (element_of a.kind (get_or a.cells k (pos 0))) (element_of b.kind (get_or b.cells n (pos 0)))) (place_of_index sh b b k h h each.1)
+    ∙ each.2 in
     (index_at sh k, IsIndex-index_at sh k (omega (arith, each.1, h.count)), ap (λ (o : Option Elem). is_none o) at, refl)
 
 pub step : (s : StoreView) (sh : List ℕ) (x : Node) (us : List Array) → AllByRecursion (HasForm sh) us → StepAgrees s sh x us (after_node s sh x (pending us))
-step s sh (Operand leaf) us h =
-    ((leaf_array-form s sh leaf, h), λ i index.
-      (ap (λ (c : ℤ). let o : Option Elem = Some (element_of (leaf_kind leaf) c) in o ∷ column i us) (sym (leaf_array-cell s sh leaf i index)), refl))
+step s sh (Operand leaf) us h = (
+  (leaf_array-form s sh leaf, h),
+  λ i index.
+      (ap (λ (c : ℤ). let o : Option Elem = Some (element_of (leaf_kind leaf) c) in o ∷ column i us) (sym (leaf_array-cell s sh leaf i index)), refl),
+)
 step s sh (One f p) [] h = (h, λ i index. (refl, refl))
 step s sh (One f p) (b ∷ us) h =
     step1 s sh f p b us (all_defined (map (scalar1 f) (elements b))) h.0 h.1 (each1 (scalar1 f) b.kind (scalar1-number f) b.cells) (applied1-form sh f p b h.0)
