@@ -1,5 +1,5 @@
 -- The meaning that is computed is the one that each index gives, and the only one.
-use Rattle.std.proofs.Common.{◌≡◌, ℕ, zero, suc, ◌+◌, ◌<◌, ◌≤◌, ℤ, pos, Bool, true, false, IsTrue, List, [], ◌∷◌, length, map, get_or, Option, Some, None, refl, sym, ap, ◌∙◌, subst, arith, inl, inr, ◌⊎◌}
+use Rattle.std.proofs.Common.{◌≡◌, ℕ, zero, suc, ◌<◌, ℤ, pos, Bool, false, IsTrue, List, [], ◌∷◌, get_or, Some, refl, sym, ap, ◌∙◌, subst, arith, inl, inr, ◌⊎◌}
 use Rattle.std.specs.Prelude.{slice_get}
 use Rattle.std.specs.Option.{option_map}
 use Rattle.std.specs.List.{AllByRecursion}
@@ -13,7 +13,7 @@ use Rattle.array_store.specs.Stores.{StoreView}
 use Rattle.drag_along.specs.declared.nodes.Node.{Node}
 use Rattle.drag_along.specs.Nodes.{node_place}
 use Rattle.drag_along.specs.Segments.{SegmentView, IsSegment}
-use Rattle.drag_along.specs.Meaning.{Meaning, Means, Faults, Pending, pending, stopped, value_at, values_at, fails_on, fails_at, Fails, IsFirstFault, IsItsArray, IsMeaning, after_node, after_nodes, newest, entry}
+use Rattle.drag_along.specs.Meaning.{Meaning, Means, Faults, Pending, pending, stopped, value_at, values_at, fails_on, fails_at, IsFirstFault, IsItsArray, IsMeaning, after_node, after_nodes, newest, entry}
 use Rattle.drag_along.proofs.MeaningLemmas.{after_nodes-stopped, HasCount, after_nodes-count}
 use Rattle.drag_along.proofs.LawfulLemmas.{HasForm, FormIf, entry-form}
 use Rattle.drag_along.proofs.JoinLemmas.{KindIf, entry-kind}

@@ -1,12 +1,11 @@
 -- Leaves and segments over a store in which the data that they name stayed.
-use Rattle.std.proofs.Common.{◌≡◌, ℕ, ◌+◌, ◌<◌, ◌≤◌, ℤ, pos, List, [], ◌∷◌, length, map, refl, sym, ap, ◌∙◌, subst, arith}
-use Rattle.std.specs.Prelude.{unsigned_abs, slice_index_or, Bool, false, ◌<ℤ◌}
+use Rattle.std.proofs.Common.{◌≡◌, ℕ, ◌<◌, ◌≤◌, ℤ, pos, List, [], ◌∷◌, length, map, refl, sym, ap, ◌∙◌, subst, arith}
+use Rattle.std.specs.Prelude.{unsigned_abs, slice_index_or, ◌<ℤ◌}
 use Rattle.std.proofs.lemmas.Bool.{eq-eqb}
-use Rattle.apl_base.specs.declared.cells.Kind.TheVariants.{Num, Char}
 use Rattle.apl_base.specs.Array.{Array, size_of, index_at}
 use Rattle.apl_base.specs.Selection.{upward}
 use Rattle.array_desc.specs.Desc.{number}
-use Rattle.array_store.specs.Stores.{StoreView, holders_of, cells_of, kind_of, data_at}
+use Rattle.array_store.specs.Stores.{StoreView}
 use Rattle.array_store.specs.Follows.{Follows, Holds, both, one_of}
 use Rattle.array_store.proofs.FollowsLemmas.{cells_of-kept, kind_of-kept}
 use Rattle.drag_along.specs.declared.leaves.Leaf.{Leaf}
@@ -16,7 +15,7 @@ use Rattle.drag_along.specs.declared.nodes.Node.TheVariants.{Operand, One, Two}
 use Rattle.drag_along.specs.Nodes.{named_by_leaf, named_by_nodes, AllLeaves, leaf_kind}
 use Rattle.drag_along.specs.Segments.{SegmentView, named_by}
 use Rattle.drag_along.specs.Meaning.{Pending, pending, stopped, leaf_cell, leaf_array, after_node, after_nodes, newest, entry}
-use Rattle.drag_along.specs.Lawful.{LiesIn, IsLawfulLeaf, IsLawful, MeansWithin, SameData}
+use Rattle.drag_along.specs.Lawful.{IsLawfulLeaf, IsLawful, MeansWithin, SameData}
 
 pub follows_keeps : (old new : StoreView) (before after others leaves : ℕ → ℕ) → Follows old new before after → Holds old (both before others) → ((key : ℕ) → leaves key ≤ others key) → SameData old new leaves
 follows_keeps old new before after others leaves f h few = record {

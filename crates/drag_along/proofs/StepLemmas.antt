@@ -1,6 +1,6 @@
 -- What is computed by whole arrays is what each index says.
-use Rattle.std.proofs.Common.{◌≡◌, ℕ, zero, suc, ◌+◌, ◌<◌, ◌≤◌, ℤ, pos, Bool, true, false, IsTrue, List, [], ◌∷◌, length, map, get_or, Option, Some, None, refl, sym, ap, ◌∙◌, subst, arith, inl, inr}
-use Rattle.std.specs.Prelude.{is_none, slice_get}
+use Rattle.std.proofs.Common.{◌≡◌, ℕ, zero, suc, ◌+◌, ◌<◌, ℤ, pos, false, IsTrue, List, [], ◌∷◌, length, map, get_or, Option, Some, None, refl, sym, ap, ◌∙◌, arith}
+use Rattle.std.specs.Prelude.{is_none}
 use Rattle.std.specs.Option.{option_map, option_and_then}
 use Rattle.std.specs.List.{AllByRecursion, zip}
 use Rattle.apl_base.specs.declared.cells.Kind.{Kind}
@@ -19,8 +19,7 @@ use Rattle.drag_along.specs.declared.leaves.Leaf.{Leaf}
 use Rattle.drag_along.specs.declared.nodes.Node.{Node}
 use Rattle.drag_along.specs.declared.nodes.Node.TheVariants.{Operand, One, Two}
 use Rattle.drag_along.specs.Nodes.{leaf_kind, node_place}
-use Rattle.drag_along.specs.Meaning.{Meaning, Means, Faults, Pending, pending, stopped, put, elements, all_defined, numbers_or, applied1, applied2, leaf_cell, leaf_array, value_at, values_at, fails_on, fails_at, after_node, after_nodes}
-use Rattle.drag_along.proofs.MeaningLemmas.{after_nodes-stopped}
+use Rattle.drag_along.specs.Meaning.{Pending, pending, stopped, put, elements, all_defined, numbers_or, leaf_cell, leaf_array, value_at, fails_on, after_node}
 use Rattle.drag_along.proofs.LawfulLemmas.{HasForm, FormIf, applied1-form, applied2-form, leaf_array-form}
 
 -- ---- a scalar function's value is a number

@@ -5,7 +5,6 @@ use Rattle.apl_base.specs.declared.cells.Interval.TheVariants.{Span}
 use Rattle.apl_base.specs.declared.faults.Place.{Place}
 use Rattle.apl_base.specs.declared.rows.Dya.TheVariants.{Add, Div}
 use Rattle.array_store.specs.Stores.{StoreView, new_owner}
-use Rattle.drag_along.specs.declared.leaves.Leaf.{Leaf}
 use Rattle.drag_along.specs.declared.leaves.Leaf.TheVariants.{Stored, Gen}
 use Rattle.drag_along.specs.Segments.{SegmentView, leaf_segment, joined2}
 

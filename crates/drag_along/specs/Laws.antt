@@ -1,6 +1,5 @@
 -- The laws of this crate's definitions, each of which a public function's contract states.
 use Rattle.std.specs.Prelude.{◌≡◌, ℕ, ◌≤◌, List}
-use Rattle.apl_base.specs.Array.{IsIndex}
 use Rattle.array_store.specs.Stores.{StoreView}
 use Rattle.array_store.specs.Follows.{Follows, Holds, both}
 use Rattle.drag_along.specs.declared.leaves.Leaf.{Leaf}

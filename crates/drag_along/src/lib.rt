@@ -7,6 +7,8 @@ mod laws;
 mod leaves;
 mod nodes;
 mod segments;
+#[cfg(test)]
+mod tests;
 
 pub use examples::meaning_examples;
 pub use laws::{meaning_laws, store_laws};
