@@ -2,5 +2,7 @@
 #![tactic(auto)]
 
 mod stacks;
+#[cfg(test)]
+mod tests;
 
 pub use stacks::Stack;
