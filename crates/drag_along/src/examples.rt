@@ -3,7 +3,7 @@ ghost use Rattle.apl_base.specs.declared.cells.Kind.TheVariants.{Num};
 ghost use Rattle.drag_along.specs.Examples.{two_vectors, halves_and_parts, column};
 ghost use Rattle.drag_along.specs.Meaning.{Means, Faults, entry};
 
-/// Worked rows of `(A÷2)+1÷B`: an array; the fault of `1÷B`, which stands first in postfix order, though `A÷2`
+/// Worked values of `(A÷2)+1÷B`: an array; the fault of `1÷B`, which stands first in postfix order, though `A÷2`
 /// fails at an earlier element; and that of `A÷2` where it alone fails.
 pub fn meaning_examples()
     ensures array { entry (two_vectors (pos 8 ∷ pos 6 ∷ []) (pos 1 ∷ pos 1 ∷ [])) halves_and_parts
