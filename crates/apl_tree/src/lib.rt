@@ -5,6 +5,7 @@
 
 mod arguments;
 mod glyphs;
+mod lookups;
 mod opens;
 mod reader;
 mod sorts;
@@ -14,4 +15,5 @@ mod steps;
 mod tests;
 mod waits;
 
+pub use lookups::Lookup;
 pub use statements::statement;

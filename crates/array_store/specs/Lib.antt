@@ -1,3 +1,4 @@
 pub mod Stores
 pub mod Follows
 pub mod Laws
+pub mod Counting

@@ -4,3 +4,4 @@ pub mod Meaning
 pub mod Lawful
 pub mod Laws
 pub mod Examples
+pub mod Views

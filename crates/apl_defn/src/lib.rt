@@ -1,0 +1,12 @@
+//! Reads the lines of a script as definitions, commands and statements: its items, or its first refusal.
+#![tactic(auto)]
+
+mod commands;
+mod earliest;
+mod headers;
+mod line_faults;
+mod names;
+mod scripts;
+mod statement_lines;
+
+pub use scripts::{script, script_of_bytes};

@@ -1,0 +1,13 @@
+//! Beating: selections change the descriptors of a pending expression's leaves, and a progression under `+`, `-` or
+//! `×` stays one. No element is computed.
+#![tactic(auto)]
+
+mod folds;
+mod runs;
+mod selecting;
+mod selections;
+
+pub use folds::{fold1, fold2};
+pub use runs::{Run, as_progression};
+pub use selecting::select;
+pub use selections::{Item, Selection};

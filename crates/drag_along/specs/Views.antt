@@ -1,0 +1,44 @@
+-- Leaves that read a whole owner, and what is so of a leaf that is answered.
+use Rattle.std.specs.Prelude.{◌≡◌, ℕ, pos, List, Option, Some, None, [], ◌∷◌}
+use Rattle.apl_base.specs.declared.cells.Kind.{Kind}
+use Rattle.apl_base.specs.declared.cells.Kind.TheVariants.{Num}
+use Rattle.apl_base.specs.Array.{Array, IsIndex, place_at}
+use Rattle.array_desc.specs.Desc.{DescView, number, IsDesc}
+use Rattle.array_store.specs.Stores.{StoreView}
+use Rattle.drag_along.specs.declared.leaves.Leaf.{Leaf}
+use Rattle.drag_along.specs.declared.leaves.Leaf.TheVariants.{Stored, Gen}
+use Rattle.drag_along.specs.declared.nodes.Node.{Node}
+use Rattle.drag_along.specs.declared.nodes.Node.TheVariants.{Operand}
+use Rattle.drag_along.specs.Nodes.{leaf_kind}
+use Rattle.drag_along.specs.Segments.{HasShape}
+use Rattle.drag_along.specs.Lawful.{IsLawfulLeaf}
+use Rattle.drag_along.specs.Meaning.{leaf_array}
+
+-- a descriptor whose numbers are the places of a shape in row-major order
+pub record IsWhole (lengths : List ℕ) (d : DescView) : Type 0 where
+  pub lawful : IsDesc d
+  pub shape : d.shape ≡ lengths
+  pub places : (i : List ℕ) → IsIndex lengths i → number d i ≡ pos (place_at lengths i)
+
+-- a leaf that reads all cells of an owner, as an array of this shape and kind
+pub record IsWholeView (owner : ℕ) (lengths : List ℕ) (kind : Kind) (leaf : Leaf) : Type 0 where
+  pub desc : DescView
+  pub whole : IsWhole lengths desc
+  pub is : leaf ≡ Stored owner desc kind
+
+-- over a store a leaf is lawful and stands for this array
+pub record StandsForArray (store : StoreView) (leaf : Leaf) (a : Array) : Type 0 where
+  pub lawful : IsLawfulLeaf store leaf
+  pub shape : HasShape a.shape leaf
+  pub kind : leaf_kind leaf ≡ a.kind
+  pub array : leaf_array store a.shape leaf ≡ a
+
+-- the leaf that is all of the nodes, where one is
+abbrev pub only_leaf : List Node → Option Leaf
+only_leaf (Operand leaf ∷ []) = Some leaf
+only_leaf nodes = None
+
+-- the descriptor of a leaf of numbers that are not stored, where that is all of the nodes
+abbrev pub only_numbers : List Node → Option DescView
+only_numbers (Operand (Gen desc Num) ∷ []) = Some desc
+only_numbers nodes = None

@@ -1,0 +1,109 @@
+-- What the calls that compute elements answer and what they leave.
+use Rattle.std.specs.Prelude.{◌≡◌, ℕ, ◌+◌, ◌*◌, ◌<◌, ◌≤◌, Option, None, Some}
+use Rattle.apl_base.specs.declared.faults.Place.{Place}
+use Rattle.apl_base.specs.Array.{Array, size_of}
+use Rattle.array_store.specs.Stores.{StoreView, Makes, holders_of, new_owner, with_holders, counted}
+use Rattle.array_store.specs.Counting.{OnlyFetched, OnlyComputed, Computed, MakesAfter}
+use Rattle.array_store.specs.declared.ids.BeginFault.{BeginFault}
+use Rattle.array_store.specs.declared.ids.BeginFault.TheVariants as begin
+use Rattle.drag_along.specs.declared.leaves.Leaf.{Leaf}
+use Rattle.drag_along.specs.declared.leaves.Leaf.TheVariants.{Stored, Gen}
+use Rattle.drag_along.specs.Nodes.{leaf_kind, leaf_shape, stored_of_leaf, stored_in, functions_in, named_by_leaf}
+use Rattle.drag_along.specs.Segments.{SegmentView}
+use Rattle.drag_along.specs.Meaning.{Means, Faults, leaf_array, entry}
+use Rattle.drag_along.specs.Views.{IsWholeView, StandsForArray, only_leaf}
+use Rattle.e_machine.specs.declared.faults.ForceFault.{ForceFault}
+use Rattle.e_machine.specs.declared.faults.ForceFault.TheVariants as force
+
+-- how many elements a segment has
+abbrev pub elements_of : SegmentView → ℕ
+elements_of segment = size_of segment.shape
+
+-- how many functions are applied, and how many cells are fetched at most, where all its elements are computed
+abbrev pub applications : SegmentView → ℕ
+applications segment = elements_of segment * functions_in segment.nodes
+
+abbrev pub fetches : SegmentView → ℕ
+fetches segment = elements_of segment * stored_in segment.nodes
+
+-- the owner of the leaf, where it has one, may be held once more
+abbrev pub MayBeHeld : StoreView → ℕ → Leaf → Type 0
+MayBeHeld store most leaf = (key : ℕ) → 0 < named_by_leaf leaf key → holders_of store key < most
+
+-- the owner of the leaf, where it has one, has a holder more, and nothing else changed
+abbrev pub HeldOnceMore : StoreView → StoreView → Leaf → Type 0
+HeldOnceMore old new (Stored owner desc kind) = new ≡ with_holders old owner (holders_of old owner + 1)
+HeldOnceMore old new (Gen desc kind) = new ≡ old
+
+-- there is room for so many cells more
+abbrev pub HasRoom : StoreView → ℕ → Type 0
+HasRoom store asked = store.live + asked ≤ store.limit
+
+-- where the segment has to be computed there is room for its elements
+abbrev pub HasRoomFor : StoreView → SegmentView → Type 0
+HasRoomFor store segment = only_leaf segment.nodes ≡ None → HasRoom store (elements_of segment)
+
+-- ---- forcing
+
+-- the leaf stands for the array that the segment meant
+pub record IsValueOf (old new : StoreView) (segment : SegmentView) (leaf : Leaf) : Type 0 where
+  pub array : Array
+  pub means : entry old segment ≡ Means array
+  pub stands : StandsForArray new leaf array
+
+-- a segment that is one leaf was answered as that leaf, held once more
+pub record IsHeld (old new : StoreView) (only leaf : Leaf) : Type 0 where
+  pub same : leaf ≡ only
+  pub held : HeldOnceMore old new only
+
+-- any other was computed into a new owner, which has just its elements; every function was applied at every element
+pub record IsMade (old new : StoreView) (segment : SegmentView) (leaf : Leaf) : Type 0 where
+  pub key : ℕ
+  pub array : Array
+  pub means : entry old segment ≡ Means array
+  pub view : IsWholeView key array.shape array.kind leaf
+  pub made : MakesAfter (λ between. Computed old between (applications segment) (fetches segment)) new key (new_owner array.cells array.kind)
+
+abbrev pub IsForced : StoreView → StoreView → SegmentView → Option Leaf → Leaf → Type 0
+IsForced old new segment (Some only) leaf = IsHeld old new only leaf
+IsForced old new segment None leaf = IsMade old new segment leaf
+
+-- the segment faults at a place, its elements had room, and nothing was done but to count
+pub record IsFault (old new : StoreView) (segment : SegmentView) (place : Place) : Type 0 where
+  pub means : entry old segment ≡ Faults place
+  pub room : HasRoom old (elements_of segment)
+  pub counted : OnlyComputed old new (applications segment) (fetches segment)
+
+-- there is no room for so many cells more, and nothing was done
+pub record IsFull (old new : StoreView) (size held wanted : ℕ) : Type 0 where
+  pub live : held ≡ old.live
+  pub asked : wanted ≡ size
+  pub full : old.limit < old.live + size
+  pub unchanged : new ≡ old
+
+-- why a segment is not forced. That memory is wanting has no stated cause
+abbrev pub IsForceFault : StoreView → StoreView → SegmentView → ForceFault → Type 0
+IsForceFault old new segment (force.Fault place) = (only_leaf segment.nodes ≡ None) × IsFault old new segment place
+IsForceFault old new segment (force.WsFull live asked) = (only_leaf segment.nodes ≡ None) × IsFull old new (elements_of segment) live asked
+IsForceFault old new segment force.NoMemory = OnlyComputed old new (applications segment) (fetches segment)
+
+-- ---- copying
+
+-- the new leaf reads a new owner, which has just the elements of the old one
+pub record IsCopy (old new : StoreView) (leaf copy : Leaf) : Type 0 where
+  pub key : ℕ
+  pub view : IsWholeView key (leaf_shape leaf) (leaf_kind leaf) copy
+  pub made : MakesAfter (λ between. OnlyFetched old between (size_of (leaf_shape leaf))) new key (new_owner (leaf_array old (leaf_shape leaf) leaf).cells (leaf_kind leaf))
+  pub stands : StandsForArray new copy (leaf_array old (leaf_shape leaf) leaf)
+
+-- why a leaf is not copied
+abbrev pub IsCopyFault : StoreView → StoreView → Leaf → BeginFault → Type 0
+IsCopyFault old new leaf (begin.WsFull live asked) = IsFull old new (size_of (leaf_shape leaf)) live asked
+IsCopyFault old new leaf begin.NoMemory = OnlyFetched old new (size_of (leaf_shape leaf))
+
+-- ---- reading
+
+-- one cell was fetched for a stored leaf, and none for another
+abbrev pub IsRead : StoreView → StoreView → Leaf → Type 0
+IsRead old new (Stored owner desc kind) = new ≡ record old { counts = record old.counts { fetched = counted old.counts.fetched 1 } }
+IsRead old new (Gen desc kind) = new ≡ old

@@ -1,0 +1,12 @@
+//! Computes the elements of pending expressions.
+#![tactic(auto)]
+
+mod copies;
+mod faults;
+mod forcing;
+mod reads;
+
+pub use copies::own;
+pub use faults::ForceFault;
+pub use forcing::force;
+pub use reads::read_at;
