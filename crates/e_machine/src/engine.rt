@@ -1,0 +1,65 @@
+ghost use Rattle.std.specs.Prelude.{◌≡◌, ◌<◌, ◌≤◌, [], ◌∷◌, ◌+◌, length, vec_len, IsSome, IsTrue, IfOk, MatchOption};
+ghost use Rattle.apl_base.specs.Array.{IsIndex};
+ghost use Rattle.apl_base.specs.Number.{IsCell};
+ghost use Rattle.drag_along.specs.Nodes.{AllLeaves, functions_in, stored_in, pending_after};
+ghost use Rattle.drag_along.specs.Segments.{IsSegment};
+ghost use Rattle.drag_along.specs.Meaning.{fails_on, IsFirstFault};
+ghost use Rattle.drag_along.specs.Lawful.{IsLawful};
+ghost use Rattle.drag_along.specs.Views.{only_leaf};
+ghost use Rattle.e_machine.specs.Forced.{applications, fetches};
+ghost use Rattle.e_machine.specs.Runs.{IsReadable, defined, ComputedJust, ComputedUpTo, HasValue, IsRun, HasCells};
+
+use crate::elements::Elements;
+use crate::reads::read_at;
+use apl_base::{Cell, Elem, NoMemory};
+use array_store::Store;
+use drag_along::{Node, Segment};
+use iter_stack::Odometer;
+use scalar_table::{apply1, apply2};
+
+// The value of a node at an index, or `None` where it fails there. Its operands are taken from those pending.
+fn value_of(node: &Node, index: &[u64], store: &mut Store, pending: &mut Elements) -> Option<Elem>
+    requires operands { IsSome (pending_after (node.now ∷ []) (length pending.old)) }
+    requires readable { AllLeaves (IsReadable store.old index.now) (node.now ∷ []) }
+    ensures value { MatchOption result (IsTrue (fails_on node.now (defined pending.old)))
+        (HasValue store.old index.now node.now pending.old pending.new) }
+    ensures counted { ComputedJust store.old store.new (functions_in (node.now ∷ [])) (stored_in (node.now ∷ [])) }
+{
+    match node {
+        Node::Operand { leaf } => Some(read_at(leaf, index, store)),
+        Node::One { f, .. } => {
+            let right = pending.pop();
+            store.count_applied();
+            apply1(*f, right)
+        }
+        Node::Two { f, .. } => {
+            let left = pending.pop();
+            let right = pending.pop();
+            store.count_applied();
+            apply2(*f, left, right)
+        }
+    }
+}
+
+// Runs the nodes at an index up to the first that fails there, and answers its number; where none fails their values
+// are pending.
+fn run_at(
+    nodes: &[Node],
+    index: &[u64],
+    store: &mut Store,
+    pending: &mut Elements,
+) -> Result<Option<usize>, NoMemory>
+    requires operands { IsSome (pending_after nodes.now 0) }
+    requires readable { AllLeaves (IsReadable store.old index.now) nodes.now }
+    ensures run { IfOk result (IsRun store.old store.new index.now nodes.now pending.new) }
+    ensures counted { ComputedUpTo store.old store.new (functions_in nodes.now) (stored_in nodes.now) }
+{
+    pending.clear();
+    for (number, node) in nodes.iter().enumerate() {
+        let Some(value) = value_of(node, index, store, pending) else {
+            return Ok(Some(number));
+        };
+        pending.push(value)?;
+    }
+    Ok(None)
+}
