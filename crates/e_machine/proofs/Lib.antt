@@ -1,1 +1,2 @@
 pub mod StackRuns
+pub mod FirstNodes
