@@ -52,20 +52,20 @@ take_readable P (suc m) (One f p ∷ xs) h = take_readable P m xs h
 take_readable P (suc m) (Two f p ∷ xs) h = take_readable P m xs h
 
 -- they fail where they fail among all nodes
-take_fails : (s : StoreView) (i : List ℕ) (m : ℕ) (xs : List Node) (j : ℕ) (st : List (Option Elem)) → j < m → fails_at s i (take m xs) j st ≡ fails_at s i xs j st
+pub take_fails : (s : StoreView) (i : List ℕ) (m : ℕ) (xs : List Node) (j : ℕ) (st : List (Option Elem)) → j < m → fails_at s i (take m xs) j st ≡ fails_at s i xs j st
 take_fails s i zero xs j st h = absurd (omega (arith, h))
 take_fails s i (suc m) [] j st h = refl
 take_fails s i (suc m) (x ∷ xs) zero st h = refl
 take_fails s i (suc m) (x ∷ xs) (suc j) st h = take_fails s i m xs j (value_at s i x st) (omega (arith, h))
 
-functions_in-take : (m : ℕ) (xs : List Node) → functions_in (take m xs) ≤ functions_in xs
+pub functions_in-take : (m : ℕ) (xs : List Node) → functions_in (take m xs) ≤ functions_in xs
 functions_in-take zero xs = omega arith
 functions_in-take (suc m) [] = omega arith
 functions_in-take (suc m) (Operand leaf ∷ xs) = functions_in-take m xs
 functions_in-take (suc m) (One f p ∷ xs) = omega (arith, functions_in-take m xs)
 functions_in-take (suc m) (Two f p ∷ xs) = omega (arith, functions_in-take m xs)
 
-stored_in-take : (m : ℕ) (xs : List Node) → stored_in (take m xs) ≤ stored_in xs
+pub stored_in-take : (m : ℕ) (xs : List Node) → stored_in (take m xs) ≤ stored_in xs
 stored_in-take zero xs = omega arith
 stored_in-take (suc m) [] = omega arith
 stored_in-take (suc m) (Operand leaf ∷ xs) = omega (arith, stored_in-take m xs)
@@ -74,12 +74,12 @@ stored_in-take (suc m) (Two f p ∷ xs) = stored_in-take m xs
 
 -- ---- what a store means stays while it counts
 
-values_counted : (s t : StoreView) (i : List ℕ) (xs : List Node) (st : List (Option Elem)) → OnlyCounted s t → values_at t i xs st ≡ values_at s i xs st
+pub values_counted : (s t : StoreView) (i : List ℕ) (xs : List Node) (st : List (Option Elem)) → OnlyCounted s t → values_at t i xs st ≡ values_at s i xs st
 values_counted s t i [] st only = refl
 values_counted s t i (x ∷ xs) st only =
     ap (values_at t i xs) (value_counted s t i x st only) ∙ values_counted s t i xs (value_at s i x st) only
 
-fails_counted : (s t : StoreView) (i : List ℕ) (xs : List Node) (k : ℕ) (st : List (Option Elem)) → OnlyCounted s t → fails_at t i xs k st ≡ fails_at s i xs k st
+pub fails_counted : (s t : StoreView) (i : List ℕ) (xs : List Node) (k : ℕ) (st : List (Option Elem)) → OnlyCounted s t → fails_at t i xs k st ≡ fails_at s i xs k st
 fails_counted s t i [] k st only = refl
 fails_counted s t i (x ∷ xs) zero st only = refl
 fails_counted s t i (x ∷ xs) (suc k) st only =
@@ -100,7 +100,7 @@ all_readable s t sh i (Two f p ∷ xs) only index shapes lawful = all_readable s
 
 -- ---- how many values are left, and that the last is a number where it is a function's
 
-values_count : (s : StoreView) (i : List ℕ) (xs : List Node) (st : List (Option Elem)) (m : ℕ) → pending_after xs (length st) ≡ Some m → length (values_at s i xs st) ≡ m
+pub values_count : (s : StoreView) (i : List ℕ) (xs : List Node) (st : List (Option Elem)) (m : ℕ) → pending_after xs (length st) ≡ Some m → length (values_at s i xs st) ≡ m
 values_count s i [] st m h = let e : length st ≡ m = cc in e
 values_count s i (Operand leaf ∷ xs) st m h = let e : Elem = leaf_element s leaf i in values_count s i xs (Some e ∷ st) m h
 values_count s i (One f p ∷ xs) [] m h = absurd (cc)
@@ -153,7 +153,7 @@ ends_in_number s i (Two f p) (y ∷ ys) (a ∷ b ∷ st) many h = ends_in_number
 some_one : (n : ℕ) → Some 0 ≡ Some (suc n) → ⊥
 some_one n e = absurd (cc)
 
-nodes_end_in_number : (s : StoreView) (i : List ℕ) (xs : List Node) → only_leaf xs ≡ None → pending_after xs 0 ≡ Some 1 → EndsInNumber (values_at s i xs [])
+pub nodes_end_in_number : (s : StoreView) (i : List ℕ) (xs : List Node) → only_leaf xs ≡ None → pending_after xs 0 ≡ Some 1 → EndsInNumber (values_at s i xs [])
 nodes_end_in_number s i [] many h = tt
 nodes_end_in_number s i (Operand leaf ∷ []) many h = absurd (cc)
 nodes_end_in_number s i (Operand leaf ∷ x ∷ xs) many h = let e : Elem = leaf_element s leaf i in ends_in_number s i x xs (Some e ∷ []) (omega arith) h

@@ -1,2 +1,3 @@
 pub mod StackRuns
 pub mod FirstNodes
+pub mod FirstFaults
