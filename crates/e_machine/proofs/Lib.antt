@@ -1,3 +1,4 @@
 pub mod StackRuns
 pub mod FirstNodes
+pub mod Visits
 pub mod FirstFaults

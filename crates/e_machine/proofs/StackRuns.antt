@@ -128,7 +128,7 @@ stored_in-cons (Operand leaf) xs = omega arith
 stored_in-cons (One f p) xs = omega arith
 stored_in-cons (Two f p) xs = omega arith
 
-length-defined : (es : List Elem) → length (defined es) ≡ length es
+pub length-defined : (es : List Elem) → length (defined es) ≡ length es
 length-defined [] = refl
 length-defined (e ∷ es) = ap suc (length-defined es)
 

@@ -1,5 +1,5 @@
 -- What is answered on the way to a segment's elements: for a node, for all nodes at one index, and over all indices.
-use Rattle.std.specs.Prelude.{◌≡◌, ℕ, ◌^◌, ◌<◌, ◌≤◌, ℤ, false, IsTrue, All, List, [], ◌∷◌, length, map, Option, None, Some}
+use Rattle.std.specs.Prelude.{◌≡◌, ℕ, ◌^◌, ◌<◌, ◌≤◌, ℤ, false, IsTrue, All, List, [], ◌∷◌, ◌++◌, length, map, Option, None, Some}
 use Rattle.apl_base.specs.declared.cells.Kind.TheVariants.{Num}
 use Rattle.apl_base.specs.declared.cells.Elem.{Elem}
 use Rattle.apl_base.specs.Array.{IsIndex}
@@ -69,6 +69,26 @@ pub record FailsFirst (store : StoreView) (index : List ℕ) (nodes : List Node)
 abbrev pub IsRun : StoreView → StoreView → List ℕ → List Node → List Elem → Option ℕ → Type 0
 IsRun old new index nodes values None = HasValues old index nodes values × ComputedJust old new (functions_in nodes) (stored_in nodes)
 IsRun old new index nodes values (Some k) = FailsFirst old index nodes k
+
+-- ---- a segment at one index
+
+-- no node fails, the cell of the element was put behind the others, and each function was applied once
+pub record GainsCell (old new : StoreView) (index : List ℕ) (nodes : List Node) (before after : List ℤ) : Type 0 where
+  pub cell : ℤ
+  pub gained : after ≡ before ++ cell ∷ []
+  pub lawful : IsCell Num cell
+  pub leaves : values_at old index nodes [] ≡ defined (record { kind = Num; cell = cell } ∷ [])
+  pub just : ComputedJust old new (functions_in nodes) (stored_in nodes)
+
+-- none of the first nodes fails, and where these are all a cell is gained
+pub record Passes (old new : StoreView) (index : List ℕ) (nodes : List Node) (first : ℕ) (before after : List ℤ) : Type 0 where
+  pub none : (j : ℕ) → j < first → fails_at old index nodes j [] ≡ false
+  pub all : first ≡ length nodes → GainsCell old new index nodes before after
+
+-- what a visit of an index answers: none of the first nodes fails, or this is the least that does
+abbrev pub IsVisit : StoreView → StoreView → List ℕ → List Node → ℕ → List ℤ → List ℤ → Option ℕ → Type 0
+IsVisit old new index nodes first before after None = Passes old new index nodes first before after
+IsVisit old new index nodes first before after (Some k) = (k < first) × FailsFirst old index nodes k
 
 -- ---- all indices
 

@@ -1,13 +1,13 @@
-ghost use Rattle.std.specs.Prelude.{◌≡◌, ◌<◌, ◌≤◌, [], ◌∷◌, ◌+◌, length, vec_len, IsSome, IsTrue, IfOk, MatchOption};
+ghost use Rattle.std.specs.Prelude.{◌≡◌, ◌<◌, ◌≤◌, [], ◌∷◌, ◌+◌, length, vec_len, IsSome, IsTrue, IfOk, MatchOption, None};
 ghost use Rattle.apl_base.specs.Array.{IsIndex};
 ghost use Rattle.apl_base.specs.Number.{IsCell};
 ghost use Rattle.drag_along.specs.Nodes.{AllLeaves, functions_in, stored_in, pending_after};
 ghost use Rattle.drag_along.specs.Segments.{IsSegment};
 ghost use Rattle.drag_along.specs.Meaning.{fails_on, IsFirstFault};
-ghost use Rattle.drag_along.specs.Lawful.{IsLawful};
+ghost use Rattle.drag_along.specs.Lawful.{IsLawfulLeaf};
 ghost use Rattle.drag_along.specs.Views.{only_leaf};
 ghost use Rattle.e_machine.specs.Forced.{applications, fetches};
-ghost use Rattle.e_machine.specs.Runs.{IsReadable, defined, ComputedJust, ComputedUpTo, HasValue, IsRun, HasCells};
+ghost use Rattle.e_machine.specs.Runs.{IsReadable, defined, ComputedJust, ComputedUpTo, HasValue, IsRun, IsVisit, HasCells};
 
 use crate::elements::Elements;
 use crate::reads::read_at;
@@ -62,4 +62,51 @@ fn run_at(
         pending.push(value)?;
     }
     Ok(None)
+}
+
+// Visits one index with the first nodes: it answers the number of the first of them that fails there, if one does.
+// Where these are all nodes and none fails, the cell of the element is put behind the others.
+fn visit(
+    s: &Segment,
+    first: usize,
+    index: &[u64],
+    store: &mut Store,
+    pending: &mut Elements,
+    cells: &mut Vec<Cell>,
+) -> Result<Option<usize>, NoMemory>
+    requires first { first ≤ length s.now.nodes }
+    requires index { IsIndex s.now.shape index.now }
+    requires leaves { AllLeaves (IsLawfulLeaf store.old) s.now.nodes }
+    requires many { only_leaf s.now.nodes ≡ None }
+    ensures visit { IfOk result
+        (IsVisit store.old store.new index.now s.now.nodes first cells.old.items cells.new.items) }
+    ensures counted { ComputedUpTo store.old store.new (functions_in s.now.nodes) (stored_in s.now.nodes) }
+{
+    if let Some(failed) = run_at(&s.nodes[..first], index, store, pending)? {
+        return Ok(Some(failed));
+    }
+    if first == s.nodes.len() {
+        cells.push(pending.pop().cell)?;
+    }
+    Ok(None)
+}
+
+/// Computes the elements in row-major order, and puts their cells behind each other. It answers the number of the first
+/// node that fails at any index, or that of all nodes where none does.
+pub fn compute(s: &Segment, store: &mut Store, cells: &mut Vec<Cell>) -> Result<usize, NoMemory>
+    requires leaves { AllLeaves (IsLawfulLeaf store.old) s.now.nodes }
+    requires many { only_leaf s.now.nodes ≡ None }
+    requires empty { cells.old.items ≡ [] }
+    ensures fault { IfOk result (λ first. first < length s.now.nodes → IsFirstFault store.old s.now first) }
+    ensures cells { IfOk result (λ first. length s.now.nodes ≤ first
+        → HasCells store.old store.new s.now cells.new.items) }
+    ensures counted { ComputedUpTo store.old store.new (applications s.now) (fetches s.now) }
+{
+    let mut pending = Elements::new(s.shape.allocator());
+    let mut first = s.nodes.len();
+    for index in Odometer::new(&s.shape, false) {
+        let failed = visit(s, first, index.as_slice(), store, &mut pending, cells)?;
+        first = failed.unwrap_or(first);
+    }
+    Ok(first)
 }
