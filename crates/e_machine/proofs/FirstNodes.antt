@@ -159,3 +159,10 @@ nodes_end_in_number s i (Operand leaf ∷ []) many h = absurd (cc)
 nodes_end_in_number s i (Operand leaf ∷ x ∷ xs) many h = let e : Elem = leaf_element s leaf i in ends_in_number s i x xs (Some e ∷ []) (omega arith) h
 nodes_end_in_number s i (One f p ∷ xs) many h = absurd (cc)
 nodes_end_in_number s i (Two f p ∷ xs) many h = absurd (cc)
+
+-- and leaves stay lawful
+pub leaves_counted : (s t : StoreView) (xs : List Node) → OnlyCounted s t → AllLeaves (IsLawfulLeaf s) xs → AllLeaves (IsLawfulLeaf t) xs
+leaves_counted s t [] only h = tt
+leaves_counted s t (Operand leaf ∷ xs) only h = (lawful_counted s t leaf only h.0, leaves_counted s t xs only h.1)
+leaves_counted s t (One f p ∷ xs) only h = leaves_counted s t xs only h
+leaves_counted s t (Two f p ∷ xs) only h = leaves_counted s t xs only h
