@@ -8,15 +8,17 @@ use Rattle.apl_base.specs.Number.{IsCell}
 use Rattle.apl_base.specs.Selection.{upward}
 use Rattle.iter_stack.specs.Indices.{walk}
 use Rattle.iter_stack.proofs.Walks.{Next, walk-next, walk-all}
-use Rattle.array_store.specs.Stores.{StoreView}
+use Rattle.array_store.specs.Stores.{StoreView, Makes, new_owner}
 use Rattle.array_store.specs.Counting.{OnlyFetched}
 use Rattle.drag_along.specs.declared.leaves.Leaf.{Leaf}
 use Rattle.drag_along.specs.Nodes.{leaf_kind, leaf_shape}
 use Rattle.drag_along.specs.Meaning.{leaf_cell, leaf_element, leaf_array}
 use Rattle.drag_along.specs.Lawful.{IsLawfulLeaf}
-use Rattle.e_machine.specs.Forced.{IsRead}
+use Rattle.drag_along.specs.Views.{IsWholeView}
+use Rattle.drag_along.proofs.LawfulLemmas.{leaf_array-form}
+use Rattle.e_machine.specs.Forced.{HasRoom, IsRead, IsCopy}
 use Rattle.e_machine.proofs.CountedLemmas.{lawful_leaf-counted, leaf_cell-counted, OnlyFetched-none, OnlyFetched-then, IsRead-fetched, IsRead-small}
-use Rattle.e_machine.proofs.WholeLemmas.{upward-push}
+use Rattle.e_machine.proofs.WholeLemmas.{upward-push, stands-made}
 
 -- a leaf's cells at the places below k
 abbrev pub first_cells : StoreView → Leaf → ℕ → List ℤ
@@ -80,3 +82,31 @@ Reads-all old new leaf cells left r none = r.are ∙ ap (first_cells old leaf) (
 
 pub Reads-fetched : (old new : StoreView) (leaf : Leaf) (cells : List ℤ) (left : List (List ℕ)) → Reads old new leaf cells left → left ≡ [] → OnlyFetched old new (size_of (leaf_shape leaf))
 Reads-fetched old new leaf cells left r none = subst (OnlyFetched old new) (Reads-count old new leaf cells left r none) r.fetched
+
+-- ---- the copy
+
+-- what was only counted leaves the room
+pub HasRoom-counted : (old new : StoreView) (most asked : ℕ) → OnlyFetched old new most → HasRoom old asked → HasRoom new asked
+HasRoom-counted old new most asked f room =
+    omega (arith, room, ap (λ (s : StoreView). s.live) f.only, ap (λ (s : StoreView). s.limit) f.only)
+
+length-leaf_array : (s : StoreView) (leaf : Leaf) → length (leaf_array s (leaf_shape leaf) leaf).cells ≡ size_of (leaf_shape leaf)
+length-leaf_array s leaf = (leaf_array-form s (leaf_shape leaf) leaf).count
+
+-- so many cells have room
+pub room_for_cells : (old between : StoreView) (leaf : Leaf) (cells : List ℤ) (count : ℕ) → OnlyFetched old between (size_of (leaf_shape leaf)) → HasRoom old (size_of (leaf_shape leaf)) → cells ≡ (leaf_array old (leaf_shape leaf) leaf).cells → length cells ≡ count → between.live + count ≤ between.limit
+room_for_cells old between leaf cells count f room are long =
+    omega (arith, HasRoom-counted old between _ _ f room, ap length are, length-leaf_array old leaf)
+
+-- a whole view of an owner that was made of a leaf's elements is a copy of the leaf
+pub IsCopy-made : (old between new : StoreView) (leaf copy : Leaf) (key : ℕ) (cells : List ℤ) → OnlyFetched old between (size_of (leaf_shape leaf)) → cells ≡ (leaf_array old (leaf_shape leaf) leaf).cells → Makes between new key (new_owner cells (leaf_kind leaf)) → IsWholeView key (leaf_shape leaf) (leaf_kind leaf) copy → IsCopy old new leaf copy
+IsCopy-made old between new leaf copy key cells f are makes view =
+    let all : List ℤ = (leaf_array old (leaf_shape leaf) leaf).cells in
+    let made : Makes between new key (new_owner all (leaf_kind leaf)) =
+    subst (λ (cs : List ℤ). Makes between new key (new_owner cs (leaf_kind leaf))) are makes in
+    record {
+      key = key;
+      view = view;
+      made = record { between = between; counts = f; makes = made };
+      stands = stands-made between new key all (leaf_shape leaf) (leaf_kind leaf) copy made (length-leaf_array old leaf) view;
+    }
