@@ -1,3 +1,4 @@
 pub mod CountedLemmas
 pub mod WholeLemmas
 pub mod CopyLemmas
+pub mod BesideLemmas

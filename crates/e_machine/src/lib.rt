@@ -4,9 +4,11 @@
 mod copies;
 mod faults;
 mod forcing;
+mod laws;
 mod reads;
 
 pub use copies::own;
 pub use faults::ForceFault;
 pub use forcing::force;
+pub use laws::{force_beside, own_beside};
 pub use reads::read_at;
