@@ -1,3 +1,7 @@
+pub mod CountedLemmas
+pub mod WholeLemmas
+pub mod CopyLemmas
+pub mod BesideLemmas
 pub mod StackRuns
 pub mod FirstNodes
 pub mod Visits

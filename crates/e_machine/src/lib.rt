@@ -6,9 +6,11 @@ mod elements;
 mod engine;
 mod faults;
 mod forcing;
+mod laws;
 mod reads;
 
 pub use copies::own;
 pub use faults::ForceFault;
 pub use forcing::force;
+pub use laws::{force_beside, own_beside};
 pub use reads::read_at;
