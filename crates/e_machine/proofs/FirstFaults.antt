@@ -20,7 +20,7 @@ use Rattle.drag_along.specs.Views.{only_leaf}
 use Rattle.iter_stack.specs.Indices.{walk}
 use Rattle.iter_stack.proofs.Walks.{Next, walk-next, walk-all}
 use Rattle.e_machine.specs.Forced.{applications, fetches}
-use Rattle.e_machine.specs.Runs.{defined, ComputedJust, ComputedUpTo, FailsFirst, GainsCell, Passes, IsVisit, HasCells}
+use Rattle.e_machine.specs.Runs.{defined, ComputedJust, ComputedUpTo, FailsFirst, GainsCell, Passes, IsVisit, HasElements}
 use Rattle.e_machine.proofs.StackRuns.{just_nothing, just_then}
 use Rattle.e_machine.proofs.FirstNodes.{values_counted, fails_counted}
 
@@ -215,7 +215,7 @@ many_kind (Operand leaf ∷ x ∷ xs) h = refl
 many_kind (One f p ∷ xs) h = refl
 many_kind (Two f p ∷ xs) h = refl
 
-computes : (s now : StoreView) (g : SegmentView) (p first : ℕ) (cells : List ℤ) → IsSegment g → only_leaf g.nodes ≡ None → Searched s now g p first cells → p ≡ size_of g.shape → first ≡ length g.nodes → HasCells s now g cells
+computes : (s now : StoreView) (g : SegmentView) (p first : ℕ) (cells : List ℤ) → IsSegment g → only_leaf g.nodes ≡ None → Searched s now g p first cells → p ≡ size_of g.shape → first ≡ length g.nodes → HasElements s now g cells
 computes s now g p first cells seg many found all whole =
     let f : found.applied ≡ applications g = omega (arith, found.all_applied whole, ap (λ (n : ℕ). n * functions_in g.nodes) all) in
     let c : found.fetched ≡ fetches g = omega (arith, found.all_fetched whole, ap (λ (n : ℕ). n * stored_in g.nodes) all) in
@@ -237,7 +237,7 @@ computes s now g p first cells seg many found all whole =
       just = subst (λ (n : ℕ). ComputedJust s now n (fetches g)) f (subst (λ (n : ℕ). ComputedJust s now found.applied n) c found.just);
     }
 
-pub reach_computes : (s now : StoreView) (g : SegmentView) (left : List (List ℕ)) (first : ℕ) (cells : List ℤ) → IsSegment g → only_leaf g.nodes ≡ None → Reached s now g left first cells → left ≡ [] → length g.nodes ≤ first → HasCells s now g cells
+pub reach_computes : (s now : StoreView) (g : SegmentView) (left : List (List ℕ)) (first : ℕ) (cells : List ℤ) → IsSegment g → only_leaf g.nodes ≡ None → Reached s now g left first cells → left ≡ [] → length g.nodes ≤ first → HasElements s now g cells
 reach_computes s now g left first cells seg many found none past =
     let all : size_of g.shape ≤ found.place = all_places s now g left first cells found none in
     computes s now g found.place first cells seg many found.searched (omega (arith, all, found.within)) (omega (arith, found.searched.few, past))

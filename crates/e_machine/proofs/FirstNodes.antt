@@ -29,8 +29,9 @@ use Rattle.drag_along.specs.Meaning.{leaf_element, value_at, values_at, fails_on
 use Rattle.drag_along.specs.Lawful.{IsLawfulLeaf}
 use Rattle.drag_along.specs.Views.{only_leaf}
 use Rattle.e_machine.specs.Forced.{applications, fetches}
-use Rattle.e_machine.specs.Runs.{IsReadable, defined, ComputedJust, ComputedUpTo, HasValues, FailsFirst, HasCells}
-use Rattle.e_machine.proofs.StackRuns.{just_nothing, just_then, lawful_counted, value_counted}
+use Rattle.e_machine.specs.Runs.{IsReadable, defined, ComputedJust, }
+use Rattle.e_machine.proofs.StackRuns.{value_counted}
+use Rattle.e_machine.proofs.CountedLemmas.{lawful_leaf-counted}
 
 -- ---- the first nodes alone
 
@@ -91,7 +92,7 @@ all_readable s t sh i [] only index shapes lawful = tt
 all_readable s t sh i (Operand leaf ∷ xs) only index shapes lawful = (
   record {
     within = subst (λ (ns : List ℕ). IsIndex ns i) (sym shapes.0.same) index;
-    lawful = lawful_counted s t leaf only lawful.0;
+    lawful = lawful_leaf-counted s t leaf only lawful.0;
   },
   all_readable s t sh i xs only index shapes.1 lawful.1,
 )
@@ -163,6 +164,6 @@ nodes_end_in_number s i (Two f p ∷ xs) many h = absurd (cc)
 -- and leaves stay lawful
 pub leaves_counted : (s t : StoreView) (xs : List Node) → OnlyCounted s t → AllLeaves (IsLawfulLeaf s) xs → AllLeaves (IsLawfulLeaf t) xs
 leaves_counted s t [] only h = tt
-leaves_counted s t (Operand leaf ∷ xs) only h = (lawful_counted s t leaf only h.0, leaves_counted s t xs only h.1)
+leaves_counted s t (Operand leaf ∷ xs) only h = (lawful_leaf-counted s t leaf only h.0, leaves_counted s t xs only h.1)
 leaves_counted s t (One f p ∷ xs) only h = leaves_counted s t xs only h
 leaves_counted s t (Two f p ∷ xs) only h = leaves_counted s t xs only h

@@ -16,7 +16,7 @@ use Rattle.apl_base.specs.Selection.{upward}
 use Rattle.apl_base.proofs.Sizes.{IsIndex-index_at, place_at-index_at, index_at-place_at, place_at-below}
 use Rattle.array_desc.specs.Desc.{DescView, number}
 use Rattle.array_store.specs.declared.ids.Counts.{Counts}
-use Rattle.array_store.specs.Stores.{OwnerView, StoreView, IsStore, owner_at, holders_of, cells_of, kind_of, cell_of, counted, new_owner}
+use Rattle.array_store.specs.Stores.{OwnerView, StoreView, IsStore, owner_at, holders_of, cells_of, kind_of, cell_of, counted, new_owner, Makes}
 use Rattle.array_store.specs.Counting.{OnlyCounted, RoseBy, OnlyComputed, Computed}
 use Rattle.array_store.proofs.StoreLemmas.{owner_of-found}
 use Rattle.iter_stack.proofs.Walks.{length-upward, get_or-upward}
@@ -28,10 +28,11 @@ use Rattle.drag_along.specs.Nodes.{leaf_shape, AllLeaves, functions_in, node_pla
 use Rattle.drag_along.specs.Segments.{SegmentView, IsSegment, HasShape}
 use Rattle.drag_along.specs.Meaning.{Means, Faults, pending, leaf_cell, leaf_array, value_at, fails_on, fails_at, IsFirstFault, after_nodes, newest, entry}
 use Rattle.drag_along.specs.Lawful.{LeafWithin, MeansWithin, IsLawful}
-use Rattle.drag_along.specs.Views.{IsWhole, StandsForArray, only_leaf}
+use Rattle.drag_along.specs.Views.{IsWholeView, StandsForArray, only_leaf}
 use Rattle.drag_along.proofs.EntryLemmas.{only_meaning}
 use Rattle.e_machine.specs.Forced.{HasRoom, IsValueOf, IsMade, IsFault, elements_of, applications, fetches}
-use Rattle.e_machine.specs.Runs.{Rises, ComputedJust, ComputedUpTo, HasCells, IsWholeLeaf}
+use Rattle.e_machine.specs.Runs.{Rises, ComputedJust, ComputedUpTo, HasElements}
+use Rattle.e_machine.proofs.WholeLemmas.{stands-made}
 
 -- ---- counts
 
@@ -101,38 +102,6 @@ stands_within s leaf a range stands all = λ i index.
     in
     subst (InInterval range) read (by_index (InInterval range) a.cells (place_at a.shape i) (pos 0) all (omega (arith, below, many)))
 
--- the cells of an owner that was made, through a descriptor of all its places
-pub whole_stands : (s : StoreView) (key : ℕ) (desc : DescView) (sh : List ℕ) (kind : Kind) (cells : List ℤ) → IsWhole sh desc → owner_at s key ≡ Some (new_owner cells kind) → length cells ≡ size_of sh → StandsForArray s (Stored key desc kind) (record { kind = kind; shape = sh; cells = cells })
-whole_stands s key desc sh kind cells whole found many =
-    let owner = owner_of-found s key (new_owner cells kind) found in
-    let here : cells_of s key ≡ cells = ap (λ (o : OwnerView). o.cells) owner in
-    let holder : holders_of s key ≡ 1 = ap (λ (o : OwnerView). o.holders) owner in
-    let at : (i : List ℕ) → IsIndex desc.shape i → IsIndex sh i = λ i h. subst (λ (ns : List ℕ). IsIndex ns i) whole.shape h in
-    let place : (k : ℕ) → k < size_of sh → number desc (index_at sh k) ≡ pos k =
-    λ k below. whole.places (index_at sh k) (IsIndex-index_at sh k below) ∙ ap pos (place_at-index_at sh k below)
-    in
-    let cell : ℕ → ℤ = λ p. cell_of s key (unsigned_abs (number desc (index_at sh p))) in
-    record {
-      lawful = record {
-        live = omega (arith, holder);
-        kind = ap (λ (o : OwnerView). o.kind) owner;
-        low = λ i h. subst (λ (z : ℤ). pos 0 ≤ℤ z) (sym (whole.places i (at i h))) (omega (arith, ints));
-        high = λ i h.
-            let below : place_at sh i < length (cells_of s key) = omega (arith, place_at-below sh i (at i h), many, ap length here) in
-            subst (λ (z : ℤ). z <ℤ pos (length (cells_of s key))) (sym (whole.places i (at i h))) (omega (arith, ints, below));
-      };
-      shape = record { desc = whole.lawful; same = whole.shape };
-      kind = refl;
-      array = ap (λ (cs : List ℤ). let a : Array = record { kind = kind; shape = sh; cells = cs } in a)
-          (ext_get_or (pos 0) (map cell (upward 0 (size_of sh))) cells
-          (length-map (upward 0 (size_of sh)) cell ∙ length-upward 0 (size_of sh) ∙ sym many)
-          (λ k below.
-          let less : k < size_of sh = omega (arith, below, length-map (upward 0 (size_of sh)) cell, length-upward 0 (size_of sh)) in
-          mapped_at cell (size_of sh) k less
-          ∙ ap (λ (z : ℤ). cell_of s key (unsigned_abs z)) (place k less)
-          ∙ ap (λ (cs : List ℤ). get_or cs k (pos 0)) here));
-    }
-
 -- ---- what is answered
 
 -- a node that fails is a function
@@ -162,23 +131,23 @@ answer_fault old new g k x place seg fault there is room small cost = record {
 }
 
 -- the array of the cells, in a leaf that reads a new owner
-pub answer_value : (old between new : StoreView) (g : SegmentView) (cells : List ℤ) (leaf : Leaf) → IsSegment g → HasCells old between g cells → IsWholeLeaf between new g.shape Num cells leaf → IsValueOf old new g leaf
-answer_value old between new g cells leaf seg has whole = record {
+pub answer_value : (old between new : StoreView) (g : SegmentView) (cells : List ℤ) (key : ℕ) (leaf : Leaf) → IsSegment g → HasElements old between g cells → IsWholeView key g.shape Num leaf → Makes between new key (new_owner cells Num) → IsValueOf old new g leaf
+answer_value old between new g cells key leaf seg has view makes = record {
   array = record { kind = Num; shape = g.shape; cells = cells };
   means = sym (only_meaning old g (Means (record { kind = Num; shape = g.shape; cells = cells })) seg has.array);
-  stands = whole.stands;
+  stands = stands-made between new key cells g.shape Num leaf makes has.array.count view;
 }
 
-pub answer_made : (old between new : StoreView) (g : SegmentView) (cells : List ℤ) (leaf : Leaf) → IsSegment g → AreMachineCounts old.counts → HasCells old between g cells → IsWholeLeaf between new g.shape Num cells leaf → IsMade old new g leaf
-answer_made old between new g cells leaf seg small has whole = record {
-  key = whole.key;
+pub answer_made : (old between new : StoreView) (g : SegmentView) (cells : List ℤ) (key : ℕ) (leaf : Leaf) → IsSegment g → AreMachineCounts old.counts → HasElements old between g cells → IsWholeView key g.shape Num leaf → Makes between new key (new_owner cells Num) → IsMade old new g leaf
+answer_made old between new g cells key leaf seg small has view makes = record {
+  key = key;
   array = record { kind = Num; shape = g.shape; cells = cells };
   means = sym (only_meaning old g (Means (record { kind = Num; shape = g.shape; cells = cells })) seg has.array);
-  view = whole.view;
+  view = view;
   made = record {
     between = between;
     counts = computed_all old between (applications g) (fetches g) small has.just;
-    makes = whole.makes;
+    makes = makes;
   };
 }
 

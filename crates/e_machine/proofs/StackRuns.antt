@@ -17,6 +17,7 @@ use Rattle.drag_along.specs.declared.nodes.Node.TheVariants.{Operand, One, Two}
 use Rattle.drag_along.specs.Nodes.{AllLeaves, leaf_kind, functions_in, stored_in, pending_after}
 use Rattle.drag_along.specs.Meaning.{leaf_cell, value_at, values_at, fails_on, fails_at}
 use Rattle.drag_along.specs.Lawful.{IsLawfulLeaf}
+use Rattle.e_machine.proofs.CountedLemmas.{OnlyCounted-then, leaf_cell-counted}
 use Rattle.e_machine.specs.Runs.{IsReadable, defined, Rises, ComputedJust, ComputedUpTo, HasValue, HasValues, FailsFirst, IsRun}
 
 -- ---- counts
@@ -32,13 +33,10 @@ rises_then a b c m n g h = λ small.
     let f : c ≡ counted b n = h (omega arith) in
     omega arith
 
-only_then : (a b c : StoreView) → OnlyCounted a b → OnlyCounted b c → OnlyCounted a c
-only_then a b c g h = h ∙ ap (λ (s : StoreView). let t : StoreView = record s { counts = c.counts } in t) g
-
 -- one count after another
 pub just_then : (a b c : StoreView) (f g m n : ℕ) → ComputedJust a b f m → ComputedJust b c g n → ComputedJust a c (f + g) (m + n)
 just_then a b c f g m n x y = record {
-  only = only_then a b c x.only y.only;
+  only = OnlyCounted-then a b c x.only y.only;
   applied = rises_then a.counts.applied b.counts.applied c.counts.applied f g x.applied y.applied;
   fetched = rises_then a.counts.fetched b.counts.fetched c.counts.fetched m n x.fetched y.fetched;
   made = y.made ∙ x.made;
@@ -46,24 +44,8 @@ just_then a b c f g m n x y = record {
 
 -- ---- what a store means stays while it counts
 
-pub lawful_counted : (s t : StoreView) (leaf : Leaf) → OnlyCounted s t → IsLawfulLeaf s leaf → IsLawfulLeaf t leaf
-lawful_counted s t (Stored owner desc kind) only h =
-    let live : 0 < holders_of t owner = subst (λ (u : StoreView). 0 < holders_of u owner) (sym only) h.live in
-    let same_kind : kind_of t owner ≡ kind = subst (λ (u : StoreView). kind_of u owner ≡ kind) (sym only) h.kind in
-    record {
-      live = live;
-      kind = same_kind;
-      low = h.low;
-      high = λ i index. subst (λ (u : StoreView). number desc i <ℤ pos (length (cells_of u owner))) (sym only) (h.high i index);
-    }
-lawful_counted s t (Gen desc kind) only h = h
-
-cell_counted : (s t : StoreView) (i : List ℕ) (leaf : Leaf) → OnlyCounted s t → leaf_cell t leaf i ≡ leaf_cell s leaf i
-cell_counted s t i (Stored owner desc kind) only = ap (λ (u : StoreView). cell_of u owner (unsigned_abs (number desc i))) only
-cell_counted s t i (Gen desc kind) only = refl
-
 pub value_counted : (s t : StoreView) (i : List ℕ) (x : Node) (st : List (Option Elem)) → OnlyCounted s t → value_at t i x st ≡ value_at s i x st
-value_counted s t i (Operand leaf) st only = ap (λ (c : ℤ). let e : Elem = record { kind = leaf_kind leaf; cell = c } in Some e ∷ st) (cell_counted s t i leaf only)
+value_counted s t i (Operand leaf) st only = ap (λ (c : ℤ). let e : Elem = record { kind = leaf_kind leaf; cell = c } in Some e ∷ st) (leaf_cell-counted s t leaf i only)
 value_counted s t i (One f p) [] only = refl
 value_counted s t i (One f p) (b ∷ st) only = refl
 value_counted s t i (Two f p) [] only = refl

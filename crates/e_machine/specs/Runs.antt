@@ -1,11 +1,10 @@
 -- What is answered on the way to a segment's elements: for a node, for all nodes at one index, and over all indices.
 use Rattle.std.specs.Prelude.{◌≡◌, ℕ, ◌^◌, ◌<◌, ◌≤◌, ℤ, false, IsTrue, All, List, [], ◌∷◌, ◌++◌, length, map, Option, None, Some}
-use Rattle.apl_base.specs.declared.cells.Kind.{Kind}
 use Rattle.apl_base.specs.declared.cells.Kind.TheVariants.{Num}
 use Rattle.apl_base.specs.declared.cells.Elem.{Elem}
 use Rattle.apl_base.specs.Array.{IsIndex}
 use Rattle.apl_base.specs.Number.{IsCell}
-use Rattle.array_store.specs.Stores.{StoreView, Makes, counted, new_owner}
+use Rattle.array_store.specs.Stores.{StoreView, counted}
 use Rattle.array_store.specs.Counting.{OnlyCounted}
 use Rattle.drag_along.specs.declared.leaves.Leaf.{Leaf}
 use Rattle.drag_along.specs.declared.nodes.Node.{Node}
@@ -13,7 +12,6 @@ use Rattle.drag_along.specs.Nodes.{leaf_shape, functions_in, stored_in}
 use Rattle.drag_along.specs.Segments.{SegmentView}
 use Rattle.drag_along.specs.Meaning.{value_at, values_at, fails_on, fails_at, IsItsArray}
 use Rattle.drag_along.specs.Lawful.{IsLawfulLeaf}
-use Rattle.drag_along.specs.Views.{IsWholeView, StandsForArray}
 use Rattle.e_machine.specs.Forced.{applications, fetches}
 
 -- a lawful leaf of which this is an index
@@ -95,16 +93,7 @@ IsVisit old new index nodes first before after (Some k) = (k < first) × FailsFi
 -- ---- all indices
 
 -- these are the cells of the array that a segment means, and each of its functions was applied at each element
-pub record HasCells (old new : StoreView) (segment : SegmentView) (cells : List ℤ) : Type 0 where
+pub record HasElements (old new : StoreView) (segment : SegmentView) (cells : List ℤ) : Type 0 where
   pub array : IsItsArray old segment (record { kind = Num; shape = segment.shape; cells = cells })
   pub lawful : All (IsCell Num) cells
   pub just : ComputedJust old new (applications segment) (fetches segment)
-
--- ---- answers
-
--- the leaf reads the whole of an owner that was made of these cells
-pub record IsWholeLeaf (old new : StoreView) (shape : List ℕ) (what : Kind) (cells : List ℤ) (leaf : Leaf) : Type 0 where
-  pub key : ℕ
-  pub view : IsWholeView key shape what leaf
-  pub makes : Makes old new key (new_owner cells what)
-  pub stands : StandsForArray new leaf (record { kind = what; shape = shape; cells = cells })

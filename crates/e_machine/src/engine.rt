@@ -7,7 +7,7 @@ ghost use Rattle.drag_along.specs.Meaning.{fails_on, IsFirstFault};
 ghost use Rattle.drag_along.specs.Lawful.{IsLawfulLeaf};
 ghost use Rattle.drag_along.specs.Views.{only_leaf};
 ghost use Rattle.e_machine.specs.Forced.{applications, fetches};
-ghost use Rattle.e_machine.specs.Runs.{IsReadable, defined, ComputedJust, ComputedUpTo, HasValue, IsRun, IsVisit, HasCells};
+ghost use Rattle.e_machine.specs.Runs.{IsReadable, defined, ComputedJust, ComputedUpTo, HasValue, IsRun, IsVisit, HasElements};
 
 use crate::elements::Elements;
 use crate::reads::read_at;
@@ -99,7 +99,7 @@ pub fn compute(s: &Segment, store: &mut Store, cells: &mut Vec<Cell>) -> Result<
     requires empty { cells.old.items ≡ [] }
     ensures fault { IfOk result (λ first. first < length s.now.nodes → IsFirstFault store.old s.now first) }
     ensures cells { IfOk result (λ first. length s.now.nodes ≤ first
-        → HasCells store.old store.new s.now cells.new.items) }
+        → HasElements store.old store.new s.now cells.new.items) }
     ensures counted { ComputedUpTo store.old store.new (applications s.now) (fetches s.now) }
 {
     let mut pending = Elements::new(s.shape.allocator());

@@ -1,7 +1,5 @@
-ghost use Rattle.std.specs.Prelude.{◌≡◌, ℕ, ◌+◌, ◌<◌, ◌≤◌, ◌∷◌, [], false, length, All, vec_len, IfOk, IfErr, OnOk, OnErr};
+ghost use Rattle.std.specs.Prelude.{◌≡◌, ℕ, ◌≤◌, ◌∷◌, [], None, false, IfOk, IfErr, OnOk};
 ghost use Rattle.std.specs.Option.{ForSome, option_copied};
-ghost use Rattle.apl_base.specs.Array.{size_of};
-ghost use Rattle.apl_base.specs.Number.{IsCell};
 ghost use Rattle.array_store.specs.Stores.{IsStore};
 ghost use Rattle.array_store.specs.Follows.{Follows, none};
 ghost use Rattle.drag_along.specs.Nodes.{leaf_shape, named_by_leaf, functions_in, node_place};
@@ -10,12 +8,11 @@ ghost use Rattle.drag_along.specs.Meaning.{leaf_array};
 ghost use Rattle.drag_along.specs.Lawful.{IsLawful, IsLawfulLeaf, LeafWithin};
 ghost use Rattle.drag_along.specs.Views.{StandsForArray, only_leaf};
 ghost use Rattle.e_machine.specs.Forced.{MayBeHeld, HasRoom, HasRoomFor, IsValueOf, IsHeld, IsMade, IsForced, IsForceFault, elements_of};
-ghost use Rattle.e_machine.specs.Runs.{IsWholeLeaf};
 
+use crate::copies::whole_view;
 use crate::engine::compute;
 use crate::faults::ForceFault;
-use apl_base::{Cell, Kind, NoMemory, Place, Shape};
-use array_desc::Desc;
+use apl_base::{Kind, Place};
 use array_store::Store;
 use drag_along::{Leaf, Node, Segment};
 
@@ -85,7 +82,8 @@ fn computed(s: &Segment, store: &mut Store) -> Result<Leaf, ForceFault>
         let place = place_of(&s.nodes[first]);
         return Err(ForceFault::Fault { place });
     }
-    Ok(whole_leaf(&s.shape, Kind::Num, cells, store)?)
+    let owner = store.make(cells, Kind::Num)?;
+    Ok(whole_view(owner, &s.shape, Kind::Num))
 }
 
 // Where a function stands.
@@ -97,19 +95,4 @@ fn place_of(node: &Node) -> Place
         Node::Operand { .. } => unreachable!(),
         Node::One { place, .. } | Node::Two { place, .. } => *place,
     }
-}
-
-// A leaf of all these cells, in a new owner.
-fn whole_leaf(shape: &Shape, kind: Kind, cells: Vec<Cell>, store: &mut Store) -> Result<Leaf, NoMemory>
-    requires count { length cells.items ≡ size_of shape.now }
-    requires room { store.old.live + size_of shape.now ≤ store.old.limit }
-    requires lawful { All (IsCell kind) cells.items }
-    ensures whole { IfOk result (IsWholeLeaf store.old store.new shape.now kind cells.items) }
-    ensures follows { IfOk result (λ leaf. Follows store.old store.new none (named_by_leaf leaf)) }
-    ensures unchanged { OnErr result (store.new ≡ store.old) }
-    ensures store { IsStore store.new }
-{
-    let desc = Desc::whole(shape);
-    let owner = store.make(cells, kind)?;
-    Ok(Leaf::Stored { owner, desc, kind })
 }

@@ -5,11 +5,11 @@ use Rattle.array_store.specs.declared.ids.Counts.{Counts}
 use Rattle.drag_along.specs.declared.leaves.Leaf.{Leaf}
 use Rattle.drag_along.specs.declared.nodes.Node.{Node}
 use Rattle.drag_along.specs.Segments.{SegmentView, IsSegment}
-use Rattle.drag_along.specs.Meaning.{IsFirstFault}
+use Rattle.drag_along.specs.Views.{IsWholeView}
 use Rattle.apl_base.specs.declared.cells.Kind.TheVariants.{Num}
 use Rattle.apl_base.specs.Array.{size_of}
 use Rattle.array_store.specs.Stores.{StoreView}
-use Rattle.e_machine.specs.Runs.{HasCells, IsWholeLeaf}
+use Rattle.e_machine.specs.Runs.{HasElements}
 use Rattle.e_machine.proofs.ForcedLemmas.{AreMachineCounts, fault_function, answer_fault, answer_value, answer_made}
 use Rattle.e_machine.proofs.forcing.computed.Goals as goal
 
@@ -48,20 +48,20 @@ returns-then-first-len-clause-refused c =
     )
 
 -- the leaf has the shape of the segment
-whole : (between new : StoreView) (inside g : SegmentView) (cells : List ℤ) (leaf : Leaf) → inside ≡ g → IsWholeLeaf between new inside.shape Num cells leaf → IsWholeLeaf between new g.shape Num cells leaf
-whole between new inside g cells leaf view_is h = subst (λ (y : SegmentView). IsWholeLeaf between new y.shape Num cells leaf) view_is h
+whole : (key : ℕ) (inside g : SegmentView) (leaf : Leaf) → inside ≡ g → IsWholeView key inside.shape Num leaf → IsWholeView key g.shape Num leaf
+whole key inside g leaf view_is h = subst (λ (y : SegmentView). IsWholeView key y.shape Num leaf) view_is h
 
 pub returns-clause-value : goal.returns-clause-value
-returns-clause-value c = 
+returns-clause-value c =
     let many = c.len.ensures ∙ c.s.inside.nodes.ok.0 in
-    let has : HasCells c.args.store.now c.compute.new.store c.args.s.now c.compute.new.cells.items =
+    let has : HasElements c.args.store.now c.compute.new.store c.args.s.now c.compute.new.cells.items =
     c.in_ok-first.ensures.cells (past _ _ _ _ c.s.view_is many c.if-first-len.false) in
-    answer_value _ _ _ c.args.s.now _ _ (subst IsSegment c.s.view_is c.s.invariant) has (whole _ _ _ _ _ _ c.s.view_is c.in_ok-whole_leaf.ensures.whole)
+    answer_value _ _ _ c.args.s.now _ _ _ (subst IsSegment c.s.view_is c.s.invariant) has (whole _ _ _ _ c.s.view_is c.whole_view.ensures) c.in_ok-owner.ensures.made
 
 pub returns-clause-made : goal.returns-clause-made
 returns-clause-made c =
     let many = c.len.ensures ∙ c.s.inside.nodes.ok.0 in
     let small : AreMachineCounts c.counts-counts.result = record { applied = search rules; fetched = search rules } in
-    let has : HasCells c.args.store.now c.compute.new.store c.args.s.now c.compute.new.cells.items =
+    let has : HasElements c.args.store.now c.compute.new.store c.args.s.now c.compute.new.cells.items =
     c.in_ok-first.ensures.cells (past _ _ _ _ c.s.view_is many c.if-first-len.false) in
-    answer_made _ _ _ c.args.s.now _ _ (subst IsSegment c.s.view_is c.s.invariant) (subst AreMachineCounts c.counts-counts.ensures.value small) has (whole _ _ _ _ _ _ c.s.view_is c.in_ok-whole_leaf.ensures.whole)
+    answer_made _ _ _ c.args.s.now _ _ _ (subst IsSegment c.s.view_is c.s.invariant) (subst AreMachineCounts c.counts-counts.ensures.value small) has (whole _ _ _ _ c.s.view_is c.whole_view.ensures) c.in_ok-owner.ensures.made
