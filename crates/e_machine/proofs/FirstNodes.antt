@@ -1,35 +1,25 @@
 -- The search for the first fault over all indices, and the cells where there is none.
-use Rattle.std.proofs.Common.{◌≡◌, ℕ, zero, suc, ◌+◌, ◌-◌, ◌*◌, ◌^◌, ◌<◌, ◌≤◌, ℤ, pos, Bool, true, false, IsTrue, All, List, [], ◌∷◌, ◌++◌, length, get_or, take, drop, Option, Some, None, refl, sym, ap, ◌∙◌, subst, arith, inl, inr}
-use Rattle.std.specs.Prelude.{IsSome, is_none}
+use Rattle.std.proofs.Common.{◌≡◌, ℕ, zero, suc, ◌<◌, ◌≤◌, ℤ, List, [], ◌∷◌, length, take, Option, Some, None, refl, sym, ap, ◌∙◌, subst, arith}
+use Rattle.std.specs.Prelude.{IsSome}
 use Rattle.std.specs.Option.{option_map, option_and_then}
-use Rattle.std.proofs.Math.Nat.{mul-le-mul_right}
-use Rattle.std.proofs.lemmas.Bool.{cases_lt}
-use Rattle.std.proofs.lemmas.List.{get_or_append_left, length_push}
-use Rattle.std.proofs.Math.Seq.{get_or-append_seam}
-use Rattle.std.proofs.lemmas.List.Elements.{All-append}
-use Rattle.apl_base.specs.declared.cells.Kind.{Kind}
-use Rattle.apl_base.specs.declared.cells.Kind.TheVariants.{Num, Char}
+use Rattle.apl_base.specs.declared.cells.Kind.TheVariants.{Num}
 use Rattle.apl_base.specs.declared.cells.Elem.{Elem}
-use Rattle.apl_base.specs.declared.faults.Place.{Place}
 use Rattle.apl_base.specs.declared.rows.Mon.{Mon}
 use Rattle.apl_base.specs.declared.rows.Dya.{Dya}
 use Rattle.apl_base.specs.declared.rows.Dya.TheVariants as dya
-use Rattle.apl_base.specs.Array.{Array, IsIndex, size_of, index_at, place_at, cell_at}
-use Rattle.apl_base.specs.Number.{IsCell}
+use Rattle.apl_base.specs.Array.{IsIndex}
 use Rattle.apl_base.specs.Scalar.{number, on_number, of_number, of_numbers, scalar1, scalar2}
-use Rattle.apl_base.proofs.Sizes.{IsIndex-index_at, place_at-index_at, index_at-place_at, place_at-below}
 use Rattle.array_store.specs.Stores.{StoreView}
 use Rattle.array_store.specs.Counting.{OnlyCounted}
 use Rattle.drag_along.specs.declared.leaves.Leaf.{Leaf}
 use Rattle.drag_along.specs.declared.nodes.Node.{Node}
 use Rattle.drag_along.specs.declared.nodes.Node.TheVariants.{Operand, One, Two}
-use Rattle.drag_along.specs.Nodes.{leaf_shape, AllLeaves, functions_in, stored_in, pending_after, kind_of_nodes}
-use Rattle.drag_along.specs.Segments.{SegmentView, IsSegment, HasShape}
-use Rattle.drag_along.specs.Meaning.{leaf_element, value_at, values_at, fails_on, fails_at, Fails, IsFirstFault, IsItsArray}
+use Rattle.drag_along.specs.Nodes.{AllLeaves, functions_in, stored_in, pending_after}
+use Rattle.drag_along.specs.Segments.{HasShape}
+use Rattle.drag_along.specs.Meaning.{leaf_element, value_at, values_at, fails_at}
 use Rattle.drag_along.specs.Lawful.{IsLawfulLeaf}
 use Rattle.drag_along.specs.Views.{only_leaf}
-use Rattle.e_machine.specs.Forced.{applications, fetches}
-use Rattle.e_machine.specs.Runs.{IsReadable, defined, ComputedJust, }
+use Rattle.e_machine.specs.Runs.{IsReadable}
 use Rattle.e_machine.proofs.StackRuns.{value_counted}
 use Rattle.e_machine.proofs.CountedLemmas.{lawful_leaf-counted}
 

@@ -1,11 +1,9 @@
 -- Lemmas on what is answered: leaves that stand for what a segment means, and what was counted.
-use Rattle.std.proofs.Common.{◌≡◌, ℕ, zero, suc, ◌+◌, ◌^◌, ◌<◌, ◌≤◌, ℤ, pos, false, IsTrue, List, [], ◌∷◌, length, map, get_or, Option, Some, None, refl, sym, ap, ◌∙◌, subst, arith}
-use Rattle.std.specs.Prelude.{unsigned_abs, slice_get, ◌<ℤ◌, ◌≤ℤ◌}
+use Rattle.std.proofs.Common.{◌≡◌, ℕ, zero, suc, ◌+◌, ◌^◌, ◌<◌, ◌≤◌, ℤ, pos, false, IsTrue, List, [], ◌∷◌, length, map, get_or, Option, Some, refl, sym, ap, ◌∙◌, subst, arith}
+use Rattle.std.specs.Prelude.{slice_get}
 use Rattle.std.specs.Option.{option_map}
 use Rattle.std.specs.List.{AllByRecursion}
-use Rattle.std.proofs.lemmas.Int.{ints}
-use Rattle.std.proofs.lemmas.List.{ext_get_or, length-map, get_or-map}
-use Rattle.apl_base.specs.declared.cells.Kind.{Kind}
+use Rattle.std.proofs.lemmas.List.{length-map, get_or-map}
 use Rattle.apl_base.specs.declared.cells.Kind.TheVariants.{Num}
 use Rattle.apl_base.specs.declared.cells.Elem.{Elem}
 use Rattle.apl_base.specs.declared.cells.Interval.{Interval}
@@ -13,15 +11,12 @@ use Rattle.apl_base.specs.declared.faults.Place.{Place}
 use Rattle.apl_base.specs.Array.{Array, IsIndex, size_of, index_at, place_at}
 use Rattle.apl_base.specs.Interval.{InInterval}
 use Rattle.apl_base.specs.Selection.{upward}
-use Rattle.apl_base.proofs.Sizes.{IsIndex-index_at, place_at-index_at, index_at-place_at, place_at-below}
-use Rattle.array_desc.specs.Desc.{DescView, number}
+use Rattle.apl_base.proofs.Sizes.{index_at-place_at, place_at-below}
 use Rattle.array_store.specs.declared.ids.Counts.{Counts}
-use Rattle.array_store.specs.Stores.{OwnerView, StoreView, IsStore, owner_at, holders_of, cells_of, kind_of, cell_of, counted, new_owner, Makes}
+use Rattle.array_store.specs.Stores.{StoreView, IsStore, counted, new_owner, Makes}
 use Rattle.array_store.specs.Counting.{OnlyCounted, RoseBy, OnlyComputed, Computed}
-use Rattle.array_store.proofs.StoreLemmas.{owner_of-found}
 use Rattle.iter_stack.proofs.Walks.{length-upward, get_or-upward}
 use Rattle.drag_along.specs.declared.leaves.Leaf.{Leaf}
-use Rattle.drag_along.specs.declared.leaves.Leaf.TheVariants.{Stored}
 use Rattle.drag_along.specs.declared.nodes.Node.{Node}
 use Rattle.drag_along.specs.declared.nodes.Node.TheVariants.{Operand, One, Two}
 use Rattle.drag_along.specs.Nodes.{leaf_shape, AllLeaves, functions_in, node_place}
@@ -111,6 +106,7 @@ fails_function s i (y ∷ ys) zero st (Operand leaf) fails there = absurd (apart
   where
     same : (a b : Node) → Some a ≡ Some b → a ≡ b
     same a b e = cc
+
     apart : (a : Node) (l : Leaf) → a ≡ Operand l → IsTrue (fails_on a st) → ⊥
     apart (Operand m) l e t = absurd (cc)
     apart (One f p) l e t = absurd (cc)

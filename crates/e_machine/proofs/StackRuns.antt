@@ -1,24 +1,18 @@
 -- One run over the nodes at an index, node by node.
-use Rattle.std.proofs.Common.{◌≡◌, ℕ, zero, suc, ◌+◌, ◌-◌, ◌^◌, ◌<◌, ◌≤◌, Bool, false, IsTrue, List, [], ◌∷◌, length, drop, Option, Some, None, refl, sym, ap, ◌∙◌, subst, arith, ◌⊎◌, inl, inr}
-use Rattle.std.specs.Prelude.{IsSome, map, ℤ, pos, ◌<ℤ◌, unsigned_abs}
-use Rattle.std.proofs.Math.Seq.{drop-cons}
+use Rattle.std.proofs.Common.{◌≡◌, ℕ, zero, suc, ◌+◌, ◌-◌, ◌<◌, ◌≤◌, false, IsTrue, List, [], ◌∷◌, length, drop, Option, Some, None, refl, sym, ap, ◌∙◌, subst, arith, inl, inr}
+use Rattle.std.specs.Prelude.{IsSome, ℤ}
 use Rattle.std.proofs.Math.ListN.{drop_of_length-le}
 use Rattle.std.proofs.lemmas.Bool.{cases_lt}
 use Rattle.apl_base.specs.declared.cells.Elem.{Elem}
-use Rattle.apl_base.specs.Array.{IsIndex}
-use Rattle.array_store.specs.declared.ids.Counts.{Counts}
-use Rattle.array_desc.specs.Desc.{number}
-use Rattle.array_store.specs.Stores.{StoreView, counted, holders_of, kind_of, cells_of, cell_of}
+use Rattle.array_store.specs.Stores.{StoreView, counted}
 use Rattle.array_store.specs.Counting.{OnlyCounted}
 use Rattle.drag_along.specs.declared.leaves.Leaf.{Leaf}
-use Rattle.drag_along.specs.declared.leaves.Leaf.TheVariants.{Stored, Gen}
 use Rattle.drag_along.specs.declared.nodes.Node.{Node}
 use Rattle.drag_along.specs.declared.nodes.Node.TheVariants.{Operand, One, Two}
 use Rattle.drag_along.specs.Nodes.{AllLeaves, leaf_kind, functions_in, stored_in, pending_after}
-use Rattle.drag_along.specs.Meaning.{leaf_cell, value_at, values_at, fails_on, fails_at}
-use Rattle.drag_along.specs.Lawful.{IsLawfulLeaf}
+use Rattle.drag_along.specs.Meaning.{value_at, values_at, fails_on, fails_at}
 use Rattle.e_machine.proofs.CountedLemmas.{OnlyCounted-then, leaf_cell-counted}
-use Rattle.e_machine.specs.Runs.{IsReadable, defined, Rises, ComputedJust, ComputedUpTo, HasValue, HasValues, FailsFirst, IsRun}
+use Rattle.e_machine.specs.Runs.{IsReadable, defined, Rises, ComputedJust, ComputedUpTo, HasValue, FailsFirst, IsRun}
 
 -- ---- counts
 
@@ -173,8 +167,7 @@ run_few s now next i xs k es x r here count = record {
 -- after all nodes
 pub run_ends : (s now : StoreView) (i : List ℕ) (xs : List Node) (k : ℕ) (es : List Elem) → RunTo s now i xs k es → length xs ≤ k → IsRun s now i xs es None
 run_ends s now i xs k es r past =
-    let none : drop k xs ≡ [] = drop_of_length-le xs past in
-    (
+    let none : drop k xs ≡ [] = drop_of_length-le xs past in (
       record {
         none = λ j. elim (cases_lt j k) [
           | inl less ↦ r.before j less
@@ -183,6 +176,6 @@ run_ends s now i xs k es r past =
         leaves = r.leaves ∙ ap (λ (ys : List Node). values_at s i ys (defined es)) none;
       },
       let f : r.functions ≡ functions_in xs = omega (arith, r.applied, ap functions_in none) in
-      let c : r.cells ≡ stored_in xs = omega (arith, r.fetched, ap stored_in none) in
-      subst (λ (n : ℕ). ComputedJust s now n (stored_in xs)) f (subst (λ (n : ℕ). ComputedJust s now r.functions n) c r.just),
+          let c : r.cells ≡ stored_in xs = omega (arith, r.fetched, ap stored_in none) in
+          subst (λ (n : ℕ). ComputedJust s now n (stored_in xs)) f (subst (λ (n : ℕ). ComputedJust s now r.functions n) c r.just),
     )

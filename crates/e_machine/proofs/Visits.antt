@@ -1,5 +1,5 @@
 -- A visit of one index: from a run over the first nodes to what it says of all nodes.
-use Rattle.std.proofs.Common.{◌≡◌, ℕ, ◌<◌, ◌≤◌, ℤ, IsTrue, List, [], ◌∷◌, ◌++◌, length, take, Option, Some, None, refl, sym, ap, ◌∙◌, subst, arith}
+use Rattle.std.proofs.Common.{◌≡◌, ℕ, ◌<◌, ◌≤◌, ℤ, List, [], ◌∷◌, ◌++◌, length, take, Some, None, refl, sym, ap, ◌∙◌, subst, arith}
 use Rattle.std.proofs.lemmas.List.{take_all, length-take-le}
 use Rattle.apl_base.specs.declared.cells.Kind.{Kind}
 use Rattle.apl_base.specs.declared.cells.Kind.TheVariants.{Num}
@@ -10,7 +10,7 @@ use Rattle.drag_along.specs.declared.nodes.Node.{Node}
 use Rattle.drag_along.specs.Nodes.{functions_in, stored_in, pending_after}
 use Rattle.drag_along.specs.Meaning.{values_at}
 use Rattle.drag_along.specs.Views.{only_leaf}
-use Rattle.e_machine.specs.Runs.{defined, ComputedJust, ComputedUpTo, HasValues, FailsFirst, GainsCell, Passes}
+use Rattle.e_machine.specs.Runs.{defined, ComputedJust, ComputedUpTo, HasValues, FailsFirst, Passes}
 use Rattle.e_machine.proofs.StackRuns.{length-defined}
 use Rattle.e_machine.proofs.FirstNodes.{EndsInNumber, take_fails, functions_in-take, stored_in-take, values_count, nodes_end_in_number}
 
@@ -27,8 +27,7 @@ visit_costs old new first xs cost = record {
 pub visit_fails : (s : StoreView) (i : List ℕ) (first k : ℕ) (xs : List Node) → first ≤ length xs → FailsFirst s i (take first xs) k → (k < first) × FailsFirst s i xs k
 visit_fails s i first k xs few fault =
     let short : length (take first xs) ≡ first = length-take-le first xs few in
-    let less : k < first = omega (arith, fault.there, short) in
-    (
+    let less : k < first = omega (arith, fault.there, short) in (
       less,
       record {
         there = omega (arith, less, few);

@@ -1,6 +1,5 @@
 use Rattle.std.proofs.Common.{◌≡◌, ◌∙◌, List, ℕ, ◌∷◌, sym, ap, subst}
-use Rattle.apl_base.specs.Array.{IsIndex}
-use Rattle.drag_along.specs.Segments.{SegmentView, IsSegment}
+use Rattle.drag_along.specs.Segments.{IsSegment}
 use Rattle.e_machine.proofs.FirstNodes.{leaves_counted}
 use Rattle.e_machine.proofs.FirstFaults.{Reached, reach_index, reach_next, reach_finds, reach_computes, reach_costs, reach_costs_next}
 use Rattle.e_machine.proofs.engine.compute.Goals as goal

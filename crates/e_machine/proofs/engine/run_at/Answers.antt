@@ -1,7 +1,7 @@
-use Rattle.std.proofs.Common.{◌≡◌, ◌≤◌, ◌<◌, length, suc, List, ◌∷◌, drop, get_or, arith, add-one, sym, ap, ◌∙◌, subst, ℕ}
+use Rattle.std.proofs.Common.{◌≡◌, ◌<◌, length, suc, List, ◌∷◌, drop, get_or, add-one, sym, ap, ◌∙◌, ℕ}
 use Rattle.std.proofs.Math.Seq.{drop-cons}
 use Rattle.drag_along.specs.declared.nodes.Node.{Node}
-use Rattle.e_machine.proofs.StackRuns.{RunTo, run_goes, run_fails, run_few, run_ends}
+use Rattle.e_machine.proofs.StackRuns.{run_goes, run_fails, run_few, run_ends}
 use Rattle.e_machine.proofs.engine.run_at.Goals as goal
 
 -- the nodes that are left begin with the one at the number

@@ -1,4 +1,4 @@
-use Rattle.std.proofs.Common.{◌≡◌, ◌∙◌, ◌≤◌, ℕ, List, [], ◌∷◌, ◌++◌, length, take, Option, Some, None, refl, sym, ap, subst, arith, rules}
+use Rattle.std.proofs.Common.{◌≡◌, ◌∙◌, ℕ, List, [], ◌∷◌, ◌++◌, length, take, Option, None, refl, sym, ap, subst, arith, rules}
 use Rattle.std.specs.Prelude.{IsSome}
 use mir.Val.{SFits}
 use mir.Syntax.{w128}
@@ -8,7 +8,7 @@ use Rattle.array_store.specs.Stores.{StoreView}
 use Rattle.drag_along.specs.declared.nodes.Node.{Node}
 use Rattle.drag_along.specs.Nodes.{AllLeaves, functions_in, stored_in, pending_after}
 use Rattle.drag_along.specs.Segments.{SegmentView, IsSegment}
-use Rattle.e_machine.specs.Runs.{IsReadable, ComputedUpTo, ComputedJust, HasValues, FailsFirst, IsRun}
+use Rattle.e_machine.specs.Runs.{IsReadable, ComputedUpTo, FailsFirst, IsRun}
 use Rattle.e_machine.proofs.FirstNodes.{take_operands, take_readable, all_readable}
 use Rattle.e_machine.proofs.Visits.{visit_costs, visit_fails, visit_passes, visit_leaves_one, visit_gains}
 use Rattle.e_machine.proofs.engine.visit.Goals as goal
