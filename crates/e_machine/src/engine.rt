@@ -1,8 +1,6 @@
-ghost use Rattle.std.specs.Prelude.{◌≡◌, ◌<◌, ◌≤◌, [], ◌∷◌, ◌+◌, length, vec_len, IsSome, IsTrue, IfOk, MatchOption, None};
+ghost use Rattle.std.specs.Prelude.{◌≡◌, ◌<◌, ◌≤◌, [], ◌∷◌, length, IsSome, IsTrue, IfOk, MatchOption, None};
 ghost use Rattle.apl_base.specs.Array.{IsIndex};
-ghost use Rattle.apl_base.specs.Number.{IsCell};
 ghost use Rattle.drag_along.specs.Nodes.{AllLeaves, functions_in, stored_in, pending_after};
-ghost use Rattle.drag_along.specs.Segments.{IsSegment};
 ghost use Rattle.drag_along.specs.Meaning.{fails_on, IsFirstFault};
 ghost use Rattle.drag_along.specs.Lawful.{IsLawfulLeaf};
 ghost use Rattle.drag_along.specs.Views.{only_leaf};
