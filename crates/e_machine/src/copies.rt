@@ -1,13 +1,21 @@
-ghost use Rattle.std.specs.Prelude.{◌≡◌, ℕ, IfOk, IfErr, OnOk};
+ghost use Rattle.std.specs.Prelude.{◌≡◌, ◌^◌, ◌<◌, ◌≤◌, [], ◌∷◌, ◌++◌, All, IfOk, IfErr, OnOk, vec_len, vec_capacity};
 ghost use Rattle.apl_base.specs.Array.{size_of};
+ghost use Rattle.apl_base.specs.Number.{IsCell};
 ghost use Rattle.array_store.specs.Stores.{IsStore};
+ghost use Rattle.array_store.specs.Counting.{OnlyFetched};
 ghost use Rattle.array_store.specs.Follows.{Follows, none};
-ghost use Rattle.drag_along.specs.Nodes.{leaf_shape, named_by_leaf};
+ghost use Rattle.drag_along.specs.Nodes.{leaf_kind, leaf_shape, named_by_leaf};
 ghost use Rattle.drag_along.specs.Lawful.{IsLawfulLeaf};
+ghost use Rattle.drag_along.specs.Meaning.{leaf_array};
+ghost use Rattle.drag_along.specs.Views.{IsWholeView};
 ghost use Rattle.e_machine.specs.Forced.{HasRoom, IsCopy, IsCopyFault};
 
-use array_store::{BeginFault, Store};
+use crate::reads::read_at;
+use apl_base::{Cell, Kind, Shape};
+use array_desc::Desc;
+use array_store::{BeginFault, OwnerId, Store};
 use drag_along::Leaf;
+use iter_stack::Odometer;
 
 /// A copy of a leaf's elements in a new owner, also where the leaf reads a whole owner. `WsFull` comes exactly where
 /// there is no room for them, before any is read.
@@ -19,5 +27,47 @@ pub fn own(leaf: &Leaf, store: &mut Store) -> Result<Leaf, BeginFault>
     ensures refused { IfErr result (IsCopyFault store.old store.new leaf.now) }
     ensures store { IsStore store.new }
 {
-    unreachable!()
+    let _counts = store.counts();
+    let mut cells = store.begin(leaf.desc().size())?;
+    read_all(leaf, store, &mut cells);
+    let owner = store.make(cells, leaf.kind())?;
+    Ok(whole_view(owner, &leaf.desc().shape, leaf.kind()))
+}
+
+// The leaf that reads all cells of an owner, as an array of this shape and kind.
+pub(crate) fn whole_view(owner: OwnerId, shape: &Shape, kind: Kind) -> Leaf
+    ensures { IsWholeView owner shape.now kind result }
+{
+    Leaf::Stored {
+        owner,
+        desc: Desc::whole(shape),
+        kind,
+    }
+}
+
+// Puts the leaf's elements, in row-major order, into an empty vector that has room for them.
+fn read_all(leaf: &Leaf, store: &mut Store, cells: &mut Vec<Cell>)
+    requires lawful { IsLawfulLeaf store.old leaf.now }
+    requires counts { store.old.counts.fetched < 2 ^ 64 }
+    requires empty { cells.old.items ≡ [] }
+    requires room { size_of (leaf_shape leaf.now) ≤ vec_capacity cells.old }
+    ensures cells { cells.new.items ≡ (leaf_array store.old (leaf_shape leaf.now) leaf.now).cells }
+    ensures counted { OnlyFetched store.old store.new (size_of (leaf_shape leaf.now)) }
+    ensures lawful { All (IsCell (leaf_kind leaf.now)) cells.new.items }
+{
+    for index in Odometer::new(&leaf.desc().shape, false) {
+        push_reserved(cells, read_at(leaf, index.as_slice(), store).cell);
+    }
+}
+
+// Puts one more cell into a vector that has room for it.
+fn push_reserved(cells: &mut Vec<Cell>, cell: Cell)
+    requires { vec_len cells.old < vec_capacity cells.old }
+    ensures items { cells.new.items ≡ cells.old.items ++ cell ∷ [] }
+    ensures capacity { vec_capacity cells.old ≤ vec_capacity cells.new }
+{
+    match cells.push(cell) {
+        Ok(()) => {}
+        Err(_) => unreachable!(),
+    }
 }

@@ -2,11 +2,15 @@
 #![tactic(auto)]
 
 mod copies;
+mod elements;
+mod engine;
 mod faults;
 mod forcing;
+mod laws;
 mod reads;
 
 pub use copies::own;
 pub use faults::ForceFault;
 pub use forcing::force;
+pub use laws::{force_beside, own_beside};
 pub use reads::read_at;

@@ -18,5 +18,19 @@ pub fn read_at(leaf: &Leaf, index: &[u64], store: &mut Store) -> Elem
     ensures cell { IsCell result.kind result.cell }
     ensures counted { IsRead store.old store.new leaf.now }
 {
-    unreachable!()
+    // No owner has more cells than the limit, so each place fits.
+    let _limit = store.limit();
+    match leaf {
+        Leaf::Stored { owner, desc, kind } => {
+            let place = desc.number_at(index) as u64;
+            Elem {
+                kind: *kind,
+                cell: store.fetch(*owner, place),
+            }
+        }
+        Leaf::Gen { desc, kind } => Elem {
+            kind: *kind,
+            cell: desc.number_at(index),
+        },
+    }
 }
