@@ -1,0 +1,4 @@
+pub mod SelectsLemmas
+pub mod PassLemmas
+pub mod EndLemmas
+pub mod SubscriptLemmas
