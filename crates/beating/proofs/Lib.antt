@@ -2,3 +2,5 @@ pub mod SelectsLemmas
 pub mod PassLemmas
 pub mod EndLemmas
 pub mod SubscriptLemmas
+pub mod NodeLemmas
+pub mod MeaningLemmas
