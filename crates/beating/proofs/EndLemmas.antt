@@ -3,7 +3,7 @@ use Rattle.std.proofs.Common.{◌≡◌, ℕ, zero, suc, ◌+◌, ◌<◌, ◌�
 use Rattle.std.specs.Prelude.{insert, remove}
 use Rattle.apl_base.specs.Array.{IsIndex}
 use Rattle.apl_base.specs.Selection.{Position, whole, one, subscript_shape, subscript_index, at_shape, at_index}
-use Rattle.array_desc.specs.Desc.{DescView, Selects}
+use Rattle.array_desc.specs.Desc.{DescView, IsDesc, Selects}
 use Rattle.array_desc.proofs.Indices.{length_of_index}
 use Rattle.beating.specs.declared.selections.Item.{Item}
 use Rattle.beating.specs.declared.selections.Item.TheVariants as item
@@ -136,3 +136,8 @@ ended_more old now new items k b o e h s =
           selects_same old new (at_shape k now.shape) full (λ i. subscript_index (onward (suc k) items) (at_index k 0 i)) (subscript_index (onward k items)) both l
           (λ i q. onward-inserted k items old.shape i b many e q);
     }
+
+-- the loop over the axes
+pub record AtEnd (items : List Item) (old now : DescView) (k : ℕ) : Type 0 where
+  pub done : Ended old now items k
+  pub lawful : IsDesc now

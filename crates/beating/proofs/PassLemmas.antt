@@ -4,13 +4,13 @@ use Rattle.std.specs.Prelude.{nat_lt, if◌then◌else◌}
 use Rattle.std.proofs.lemmas.Int.{ints}
 use Rattle.apl_base.specs.Array.{IsShape, IsIndex}
 use Rattle.apl_base.specs.Selection.{only_index}
-use Rattle.array_desc.specs.Desc.{DescView, Selects}
+use Rattle.array_desc.specs.Desc.{DescView, IsDesc, Selects}
 use Rattle.array_desc.specs.Steps.{paired, WindowFits}
 use Rattle.array_desc.proofs.Indices.{length_of_index}
 use Rattle.array_desc.proofs.Maps.{window_is_shape}
 use Rattle.beating.specs.declared.selections.Item.{Item}
 use Rattle.beating.specs.declared.selections.Item.TheVariants as item
-use Rattle.beating.specs.Passes.{part_of, part_length, part_place, PartFits, parts_of, PartsFit}
+use Rattle.beating.specs.Passes.{Passable, part_of, part_length, part_place, PartFits, parts_of, PartsFit}
 use Rattle.beating.proofs.SelectsLemmas.{selects_itself, selects_then, selects_same}
 
 -- the first k parts, and the rest of the axes whole
@@ -188,13 +188,6 @@ part_at (p ∷ parts) (n ∷ ns) (suc k) h b = part_at parts ns k h.1 (omega (ar
 part_at [] ns k h b = absurd (omega (arith, b))
 part_at (p ∷ parts) [] k h b = absurd h
 
--- what a pass asks for
-pub record Passable (longer : Bool) (items : List Item) (ns : List ℕ) : Type 0 where
-  pub count : length items ≡ length ns
-  pub fit : PartsFit (parts_of longer items ns) ns
-  pub before : IsShape ns
-  pub after : IsShape (paired part_length (parts_of longer items ns) ns)
-
 pub next_part : (longer : Bool) (items : List Item) (old now : DescView) (k : ℕ) (p : Item) → Passable longer items old.shape → Passed old now (parts_of longer items old.shape) k → k < length items → p ≡ part_of longer (get_or items k item.All) (get_or now.shape k 0) → p ≡ get_or (parts_of longer items old.shape) k item.All
 next_part longer items old now k p a h b is =
     is ∙ ap (part_of longer (get_or items k item.All)) (passed_at old now (parts_of longer items old.shape) k (length-parts longer items old.shape a.count) h)
@@ -221,8 +214,28 @@ next_rank longer items old now k a h b =
     let many : length parts ≡ length old.shape = length-parts longer items old.shape a.count in
     omega (arith, passed_rank old now parts k many h, a.count, b)
 
-pub next_round : (longer : Bool) (items : List Item) (old now new : DescView) (k : ℕ) (p : Item) → Passable longer items old.shape → Passed old now (parts_of longer items old.shape) k → k < length items → p ≡ part_of longer (get_or items k item.All) (get_or now.shape k 0) → Selects now new (set now.shape k (part_length p (get_or now.shape k 0))) (λ is. set is k (part_place p (get_or is k 0))) → Passed old new (parts_of longer items old.shape) (k + 1)
-next_round longer items old now new k p a h b is s =
+-- ---- the loop over the axes
+
+pub record InPass (longer : Bool) (items : List Item) (old now : DescView) (k : ℕ) : Type 0 where
+  pub done : Passed old now (parts_of longer items old.shape) k
+  pub lawful : IsDesc now
+
+pub pass_begins : (longer : Bool) (items : List Item) (old : DescView) → Passable longer items old.shape → IsDesc old → InPass longer items old old 0
+pass_begins longer items old a d = record {
+  done = passed_none old (parts_of longer items old.shape) (length-parts longer items old.shape a.count);
+  lawful = d;
+}
+
+pub next_round : (longer : Bool) (items : List Item) (old now new : DescView) (k : ℕ) (p : Item) → Passable longer items old.shape → InPass longer items old now k → k < length items → p ≡ part_of longer (get_or items k item.All) (get_or now.shape k 0) → Selects now new (set now.shape k (part_length p (get_or now.shape k 0))) (λ is. set is k (part_place p (get_or is k 0))) → IsDesc new → InPass longer items old new (k + 1)
+next_round longer items old now new k p a h b is s d =
     let parts : List Item = parts_of longer items old.shape in
     let many : length parts ≡ length old.shape = length-parts longer items old.shape a.count in
-    passed_more old now new parts k p many (omega (arith, many, a.count, b)) (next_part longer items old now k p a h b is) h s
+    record {
+      done = passed_more old now new parts k p many (omega (arith, many, a.count, b)) (next_part longer items old now k p a h.done b is) h.done s;
+      lawful = d;
+    }
+
+pub pass_ends : (longer : Bool) (items : List Item) (old now : DescView) (k : ℕ) → Passable longer items old.shape → InPass longer items old now k → k ≡ length items → Selects old now (paired part_length (parts_of longer items old.shape) old.shape) (paired part_place (parts_of longer items old.shape))
+pass_ends longer items old now k a h e =
+    let many = length-parts longer items old.shape a.count in
+    passed_all old now (parts_of longer items old.shape) k (omega (arith, many, a.count, e)) h.done

@@ -10,9 +10,9 @@ use Rattle.array_desc.specs.Steps.{paired}
 use Rattle.beating.specs.declared.selections.Item.{Item}
 use Rattle.beating.specs.declared.selections.Item.TheVariants as item
 use Rattle.beating.specs.Selecting.{position_of, ItemsFit}
-use Rattle.beating.specs.Passes.{part_of, part_length, part_place, PartFits, parts_of, PartsFit, end_of, OneLeft}
+use Rattle.beating.specs.Passes.{Passable, part_of, part_length, part_place, PartFits, parts_of, PartsFit, end_of, OneLeft}
 use Rattle.beating.proofs.SelectsLemmas.{selects_then, selects_same}
-use Rattle.beating.proofs.PassLemmas.{Passable, length-paired, length-parts, all_shorter}
+use Rattle.beating.proofs.PassLemmas.{length-paired, length-parts, all_shorter}
 
 -- the lengths after the first pass, and after the second
 abbrev pub shortened : List Item → List ℕ → List ℕ

@@ -1,6 +1,7 @@
 -- How a subscript is applied to a descriptor: first the items that make no axis longer, where one place is a run of
 -- one; then the runs that make one longer; then the axes of which one place is kept go away.
-use Rattle.std.specs.Prelude.{◌≡◌, ℕ, Bool, true, false, pos, List, [], ◌∷◌, nat_lt, if◌then◌else◌}
+use Rattle.std.specs.Prelude.{◌≡◌, ℕ, Bool, true, false, pos, List, [], ◌∷◌, length, nat_lt, if◌then◌else◌}
+use Rattle.apl_base.specs.Array.{IsShape}
 use Rattle.apl_base.specs.Selection.{Position, whole, one, run_place}
 use Rattle.array_desc.specs.Desc.{RunFits}
 use Rattle.array_desc.specs.Steps.{paired}
@@ -40,6 +41,13 @@ PartsFit [] [] = Unit {0}
 PartsFit (part ∷ parts) (n ∷ ns) = PartFits part n × PartsFit parts ns
 PartsFit [] (n ∷ ns) = ⊥
 PartsFit (part ∷ parts) [] = ⊥
+
+-- a pass may be made over lengths that make a shape, and leaves such
+pub record Passable (longer : Bool) (items : List Item) (ns : List ℕ) : Type 0 where
+  pub count : length items ≡ length ns
+  pub fit : PartsFit (parts_of longer items ns) ns
+  pub before : IsShape ns
+  pub after : IsShape (paired part_length (parts_of longer items ns) ns)
 
 -- an axis of which one place is kept goes away
 abbrev pub end_of : Item → Position

@@ -6,6 +6,7 @@ mod folds;
 mod runs;
 mod selecting;
 mod selections;
+mod subscripts;
 
 pub use folds::{fold1, fold2};
 pub use runs::{Run, as_progression};
