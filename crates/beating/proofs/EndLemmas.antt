@@ -1,5 +1,5 @@
 -- The axes of which one place is kept go away, from the last one to the first.
-use Rattle.std.proofs.Common.{◌≡◌, ℕ, zero, suc, ◌+◌, ◌<◌, ◌≤◌, List, [], ◌∷◌, length, get_or, map, refl, sym, ap, ◌∙◌, subst, arith}
+use Rattle.std.proofs.Common.{◌≡◌, ℕ, zero, suc, ◌+◌, ◌-◌, ◌<◌, ◌≤◌, List, [], ◌∷◌, length, get_or, map, refl, sym, ap, ◌∙◌, subst, arith}
 use Rattle.std.specs.Prelude.{insert, remove}
 use Rattle.apl_base.specs.Array.{IsIndex}
 use Rattle.apl_base.specs.Selection.{Position, whole, one, subscript_shape, subscript_index, at_shape, at_index}
@@ -137,7 +137,43 @@ ended_more old now new items k b o e h s =
           (λ i q. onward-inserted k items old.shape i b many e q);
     }
 
--- the loop over the axes
-pub record AtEnd (items : List Item) (old now : DescView) (k : ℕ) : Type 0 where
-  pub done : Ended old now items k
+-- ---- the loop over the axes, from the last one: m are left
+
+pub record AtEnd (items : List Item) (old now : DescView) (m : ℕ) : Type 0 where
+  pub done : Ended old now items m
   pub lawful : IsDesc now
+
+pub end_begins : (items : List Item) (old : DescView) → OneLeft items old.shape → IsDesc old → AtEnd items old old (length items)
+end_begins items old o d = record { done = ended_none old items (length items) refl o; lawful = d }
+
+pub end_ends : (items : List Item) (old now : DescView) (m : ℕ) → m ≡ 0 → AtEnd items old now m → Selects old now (subscript_shape (map end_of items) old.shape) (subscript_index (map end_of items))
+end_ends items old now m e h = ended_all old now items (subst (Ended old now items) e h.done)
+
+-- the next axis is the last of those left
+last_axis : (items : List Item) (old now : DescView) (m : ℕ) → 0 < m → AtEnd items old now m → Ended old now items (suc (m - 1))
+last_axis items old now m b h = let e : m ≡ suc (m - 1) = omega arith in subst (Ended old now items) e h.done
+
+pub last_rank : (items : List Item) (old now : DescView) (m : ℕ) → 0 < m → m ≤ length items → OneLeft items old.shape → AtEnd items old now m → m - 1 < length now.shape
+last_rank items old now m b t o h = ended_rank old now items (m - 1) (omega arith) o (last_axis items old now m b h)
+
+-- one place of it is kept
+pub last_place : (items : List Item) (old now : DescView) (m i : ℕ) → 0 < m → m ≤ length items → OneLeft items old.shape → get_or items (m - 1) item.All ≡ item.At i → AtEnd items old now m → 0 < get_or now.shape (m - 1) 0
+last_place items old now m i b t o e h = ended_place old now items (m - 1) (omega arith) o (ap end_of e) (last_axis items old now m b h)
+
+pub last_removed : (items : List Item) (old now new : DescView) (m i : ℕ) → 0 < m → m ≤ length items → OneLeft items old.shape → get_or items (m - 1) item.All ≡ item.At i → AtEnd items old now m → Selects now new (at_shape (m - 1) now.shape) (at_index (m - 1) 0) → IsDesc new → AtEnd items old new (m - 1)
+last_removed items old now new m i b t o e h s d = record {
+  done = ended_more old now new items (m - 1) (omega arith) o (ap end_of e) (last_axis items old now m b h) s;
+  lawful = d;
+}
+
+-- more of it is kept
+stays : (i : Item) → ((p : ℕ) → i ≡ item.At p → ⊥) → end_of i ≡ whole
+stays item.All h = refl
+stays (item.Run from step count) h = refl
+stays (item.At p) h = absurd (h p refl)
+
+pub last_stays : (items : List Item) (old now : DescView) (m : ℕ) → 0 < m → m ≤ length items → ((p : ℕ) → get_or items (m - 1) item.All ≡ item.At p → ⊥) → AtEnd items old now m → AtEnd items old now (m - 1)
+last_stays items old now m b t n h = record {
+  done = ended_same old now items (m - 1) (omega arith) (stays (get_or items (m - 1) item.All) n) (last_axis items old now m b h);
+  lawful = h.lawful;
+}
