@@ -195,21 +195,39 @@ first_passable items ns h s = record {
   after = all_shorter items ns (length-items items ns h) (first_pass items ns h) s;
 }
 
-pub second_passable : (items : List Item) (ns : List ℕ) → ItemsFit items ns → IsShape ns → IsShape (subscript_shape (map position_of items) ns) → Passable true items (shortened items ns)
-second_passable items ns h s t =
+-- after the first pass
+abbrev pub Shortened : List Item → DescView → DescView → Type 0
+Shortened items a b = Selects a b (shortened items a.shape) (paired part_place (parts_of false items a.shape))
+
+pub second_passable : (items : List Item) (a b : DescView) → ItemsFit items a.shape → IsShape a.shape → IsShape (subscript_shape (map position_of items) a.shape) → Shortened items a b → Passable true items b.shape
+second_passable items a b h s t first =
+    let ns : List ℕ = a.shape in
     let e = length-items items ns h in
-    record {
+    subst (Passable true items) (sym first.shape) (record {
       count = omega (arith, e, length-shortened items ns e);
       fit = second_pass items ns h;
       before = all_shorter items ns e (first_pass items ns h) s;
       after = lengthened_is_shape items ns h s t;
-    }
+    })
 
-pub subscripted : (a b c d : DescView) (items : List Item) → ItemsFit items a.shape → Selects a b (shortened items a.shape) (paired part_place (parts_of false items a.shape)) → Selects b c (lengthened items a.shape) (paired part_place (parts_of true items (shortened items a.shape))) → Selects c d (subscript_shape (map end_of items) (lengthened items a.shape)) (subscript_index (map end_of items)) → Selects a d (subscript_shape (map position_of items) a.shape) (subscript_index (map position_of items))
-subscripted a b c d items h s t u =
+-- after the second
+abbrev pub Lengthened : List Item → DescView → DescView → Type 0
+Lengthened items b c = Selects b c (paired part_length (parts_of true items b.shape) b.shape) (paired part_place (parts_of true items b.shape))
+
+lengths_are : (items : List Item) (a b c : DescView) → Shortened items a b → Lengthened items b c → c.shape ≡ lengthened items a.shape
+lengths_are items a b c first second = second.shape ∙ ap (λ (ns : List ℕ). paired part_length (parts_of true items ns) ns) first.shape
+
+pub ones_left : (items : List Item) (a b c : DescView) → ItemsFit items a.shape → Shortened items a b → Lengthened items b c → OneLeft items c.shape
+ones_left items a b c h first second = subst (OneLeft items) (sym (lengths_are items a b c first second)) (one_left items a.shape h)
+
+-- and after the end
+pub subscripted : (items : List Item) (a b c d : DescView) → ItemsFit items a.shape → Shortened items a b → Lengthened items b c → Selects c d (subscript_shape (map end_of items) c.shape) (subscript_index (map end_of items)) → Selects a d (subscript_shape (map position_of items) a.shape) (subscript_index (map position_of items))
+subscripted items a b c d h first second last =
     let f : List ℕ → List ℕ = paired part_place (parts_of false items a.shape) in
     let g : List ℕ → List ℕ = paired part_place (parts_of true items (shortened items a.shape)) in
-    let two = selects_then a b c (shortened items a.shape) (lengthened items a.shape) f g s t in
+    let t = subst (λ (ns : List ℕ). Selects b c (paired part_length (parts_of true items ns) ns) (paired part_place (parts_of true items ns))) first.shape second in
+    let u = subst (λ (ns : List ℕ). Selects c d (subscript_shape (map end_of items) ns) (subscript_index (map end_of items))) (lengths_are items a b c first second) last in
+    let two = selects_then a b c (shortened items a.shape) (lengthened items a.shape) f g first t in
     let ends : List ℕ = subscript_shape (map end_of items) (lengthened items a.shape) in
     let all = selects_then a c d (lengthened items a.shape) ends (λ i. f (g i)) (subscript_index (map end_of items)) two u in
     selects_same a d ends (subscript_shape (map position_of items) a.shape) (λ i. f (g (subscript_index (map end_of items) i))) (subscript_index (map position_of items)) all (final_shape items a.shape h) (λ i q. final_index items a.shape i h q)
