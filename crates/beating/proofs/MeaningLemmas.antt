@@ -10,13 +10,14 @@ use Rattle.apl_base.proofs.Sizes.{place_at-below, index_at-place_at, IsIndex-ind
 use Rattle.array_desc.specs.Desc.{IsDesc}
 use Rattle.array_store.specs.Stores.{StoreView}
 use Rattle.drag_along.specs.declared.nodes.Node.{Node}
-use Rattle.drag_along.specs.Nodes.{leaf_desc, AllLeaves}
+use Rattle.drag_along.specs.declared.nodes.Node.TheVariants.{Operand, One, Two}
+use Rattle.drag_along.specs.Nodes.{leaf_desc, leaf_shape, AllLeaves}
 use Rattle.drag_along.specs.Segments.{SegmentView, IsSegment, HasShape}
 use Rattle.drag_along.specs.Meaning.{Meaning, Means, Faults, IsItsArray, IsMeaning, entry, values_at, fails_at}
 use Rattle.drag_along.specs.Lawful.{IsLawful, MeansWithin}
 use Rattle.drag_along.proofs.EntryLemmas.{entry_is_meaning, only_meaning}
 use Rattle.beating.specs.declared.selections.Selection.{Selection}
-use Rattle.beating.specs.Selecting.{selected_shape, selected_index, selected, selected_meaning, SelectsNodes}
+use Rattle.beating.specs.Selecting.{Fits, selected_shape, selected_index, selected, selected_meaning, SelectsNodes}
 use Rattle.beating.proofs.NodeLemmas.{FirstLeaf, first_leaf, reads_index, selected_is_shape, selected_values, selected_faults, selected_leaves, selected_shapes, selected_pending, selected_functions, selected_kinds}
 
 -- ---- the cells of a selection
@@ -140,4 +141,34 @@ pub selected_is_lawful : (store : StoreView) (by : Selection) (old new : Segment
 selected_is_lawful store by old new h safe lawful = record {
   leaves = selected_leaves store by old.nodes new.nodes h.nodes lawful.leaves;
   sound = λ _. (selected_over store by old new h safe lawful).sound;
+}
+
+-- ---- as the function that selects knows its parts
+
+same_shapes : (ns : List ℕ) (nodes : List Node) → AllLeaves (HasShape ns) nodes → AllLeaves (λ leaf. leaf_shape leaf ≡ ns) nodes
+same_shapes ns [] h = tt
+same_shapes ns (Operand leaf ∷ nodes) h = (h.0.same, same_shapes ns nodes h.1)
+same_shapes ns (One f place ∷ nodes) h = same_shapes ns nodes h
+same_shapes ns (Two f place ∷ nodes) h = same_shapes ns nodes h
+
+pub are_lawful : (ns : List ℕ) (nodes : List Node) → AllLeaves (HasShape ns) nodes → AllLeaves (λ leaf. IsDesc (leaf_desc leaf)) nodes
+are_lawful ns [] h = tt
+are_lawful ns (Operand leaf ∷ nodes) h = (h.0.desc, are_lawful ns nodes h.1)
+are_lawful ns (One f place ∷ nodes) h = are_lawful ns nodes h
+are_lawful ns (Two f place ∷ nodes) h = are_lawful ns nodes h
+
+pub all_fit : (by : Selection) (ns : List ℕ) (nodes : List Node) → Fits by ns → AllLeaves (HasShape ns) nodes → AllLeaves (λ leaf. Fits by (leaf_shape leaf)) nodes
+all_fit by ns [] f h = tt
+all_fit by ns (Operand leaf ∷ nodes) f h = (subst (Fits by) (sym h.0.same) f, all_fit by ns nodes f h.1)
+all_fit by ns (One f place ∷ nodes) g h = all_fit by ns nodes g h
+all_fit by ns (Two f place ∷ nodes) g h = all_fit by ns nodes g h
+
+pub selection_is : (by : Selection) (old new : SegmentView) → IsSegment old → new.kind ≡ old.kind → new.range ≡ old.range → SelectsNodes by old.nodes new.nodes → AllLeaves (λ leaf. IsDesc (leaf_desc leaf)) new.nodes → ((ns : List ℕ) → AllLeaves (λ leaf. leaf_shape leaf ≡ ns) new.nodes → new.shape ≡ ns) → IsSelection by old new
+selection_is by old new s k r n d h = record {
+  segment = s;
+  shape = h (selected_shape by old.shape) (same_shapes (selected_shape by old.shape) new.nodes (selected_shapes by old.shape old.nodes new.nodes n s.leaves d));
+  kind = k;
+  nodes = n;
+  range = r;
+  descs = d;
 }
