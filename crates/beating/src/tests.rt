@@ -76,11 +76,7 @@ fn whole(alloc: Global, of: &Shape, is_stored: bool) -> Result<Segment, Fail>
             kind: Kind::Num,
         }
     };
-    Ok(Segment::of_leaf(
-        alloc,
-        leaf,
-        Interval::Span { lo: -M, hi: M },
-    )?)
+    Ok(Segment::of_leaf(alloc, leaf, Interval::Span { lo: -M, hi: M })?)
 }
 
 // `A ⌈ - B`, pending.
@@ -156,6 +152,279 @@ fn take_rows(rt: HostRuntime) -> Result<(), Fail> {
     assert!(rt; takes(alloc, &[1], &[1], 0, &[0], &[1])?);
     assert!(rt; takes(alloc, &[2, 0], &[-2, 0], 0, &[0, 0], &[2, 0])?);
     assert!(rt; takes(alloc, &[2, 3], &[1, -2], 1, &[0, 1], &[1, 2])?);
-    assert!(rt; takes(alloc, &[2, 1, 3, 2], &[-1, 1, 2, -1], 7, &[0, 0, 2, 0], &[1, 1, 2, 1])?);
+    assert!(rt;
+        takes(
+            alloc,
+            &[2, 1, 3, 2],
+            &[-1, 1, 2, -1],
+            7,
+            &[0, 0, 2, 0],
+            &[1, 1, 2, 1]
+        )?
+    );
+    Ok(())
+}
+
+fn skips(
+    alloc: Global,
+    of: &[u64],
+    counts: &[i64],
+    base: Cell,
+    strides: &[Cell],
+    lengths: &[u64],
+) -> Result<bool, Fail>
+    requires shape { IsShape of.now }
+    requires few { length counts.now ≤ 8 }
+    requires counts { CountsFit of.now counts.now }
+{
+    let by = Selection::Skip {
+        counts: held(alloc, counts),
+    };
+    selects(alloc, of, &by, base, strides, lengths)
+}
+
+#[test]
+fn skip_rows(rt: HostRuntime) -> Result<(), Fail> {
+    let alloc = rt.alloc();
+    assert!(rt; skips(alloc, &[], &[], 0, &[], &[])?);
+    assert!(rt; skips(alloc, &[3], &[-1], 0, &[1], &[2])?);
+    assert!(rt; skips(alloc, &[1], &[1], 0, &[0], &[0])?);
+    assert!(rt; skips(alloc, &[2, 3], &[1, -1], 3, &[0, 1], &[1, 2])?);
+    assert!(rt;
+        skips(
+            alloc,
+            &[2, 1, 3, 2],
+            &[-1, 0, 2, 1],
+            5,
+            &[0, 0, 0, 0],
+            &[1, 1, 1, 1]
+        )?
+    );
+    Ok(())
+}
+
+fn reverses(
+    alloc: Global,
+    of: &[u64],
+    axis: usize,
+    base: Cell,
+    strides: &[Cell],
+    lengths: &[u64],
+) -> Result<bool, Fail>
+    requires shape { IsShape of.now }
+    requires axis { axis < length of.now }
+{
+    let by = Selection::Reverse { axis };
+    selects(alloc, of, &by, base, strides, lengths)
+}
+
+#[test]
+fn reversal_rows(rt: HostRuntime) -> Result<(), Fail> {
+    let alloc = rt.alloc();
+    assert!(rt; reverses(alloc, &[3], 0, 2, &[-1], &[3])?);
+    assert!(rt; reverses(alloc, &[0], 0, 0, &[0], &[0])?);
+    assert!(rt; reverses(alloc, &[1, 3], 0, 0, &[0, 1], &[1, 3])?);
+    assert!(rt; reverses(alloc, &[2, 3], 1, 2, &[3, -1], &[2, 3])?);
+    assert!(rt; reverses(alloc, &[2, 1, 3, 2], 2, 4, &[6, 0, -2, 1], &[2, 1, 3, 2])?);
+    Ok(())
+}
+
+fn transposes(
+    alloc: Global,
+    of: &[u64],
+    axes: &[usize],
+    base: Cell,
+    strides: &[Cell],
+    lengths: &[u64],
+) -> Result<bool, Fail>
+    requires shape { IsShape of.now }
+    requires few { length axes.now ≤ 8 }
+    requires count { length axes.now ≡ length of.now }
+    requires axes { AreAxes (axes_rank axes.now) axes.now }
+{
+    let by = Selection::Transpose {
+        axes: held(alloc, axes),
+    };
+    selects(alloc, of, &by, base, strides, lengths)
+}
+
+#[test]
+fn transposition_rows(rt: HostRuntime) -> Result<(), Fail> {
+    let alloc = rt.alloc();
+    assert!(rt; transposes(alloc, &[], &[], 0, &[], &[])?);
+    assert!(rt; transposes(alloc, &[2, 3], &[1, 0], 0, &[1, 3], &[3, 2])?);
+    assert!(rt; transposes(alloc, &[2, 3], &[0, 0], 0, &[4], &[2])?);
+    assert!(rt; transposes(alloc, &[2, 3, 4], &[0, 1, 0], 0, &[13, 4], &[2, 3])?);
+    assert!(rt; transposes(alloc, &[2, 1, 3, 2], &[1, 0, 1, 0], 0, &[0, 8], &[1, 2])?);
+    Ok(())
+}
+
+fn indexes(
+    alloc: Global,
+    of: &[u64],
+    items: &[Item],
+    base: Cell,
+    strides: &[Cell],
+    lengths: &[u64],
+) -> Result<bool, Fail>
+    requires shape { IsShape of.now }
+    requires few { length items.now ≤ 8 }
+    requires items { ItemsFit items.now of.now }
+    requires lengths { IsShape (subscript_shape (map position_of items.now) of.now) }
+{
+    let by = Selection::Index {
+        items: held(alloc, items),
+    };
+    selects(alloc, of, &by, base, strides, lengths)
+}
+
+#[test]
+fn subscript_rows(rt: HostRuntime) -> Result<(), Fail> {
+    let alloc = rt.alloc();
+    assert!(rt; indexes(alloc, &[], &[], 0, &[], &[])?);
+    assert!(rt; indexes(alloc, &[3], &[run(2, -1, 3)], 2, &[-1], &[3])?);
+    assert!(rt; indexes(alloc, &[1], &[at(0)], 0, &[], &[])?);
+    assert!(rt; indexes(alloc, &[0, 3], &[ALL, at(2)], 0, &[0], &[0])?);
+    assert!(rt; indexes(alloc, &[3], &[run(9, 5, 0)], 0, &[0], &[0])?);
+    assert!(rt;
+        indexes(
+            alloc,
+            &[2, 3],
+            &[run(1, 0, 5), run(2, -2, 2)],
+            5,
+            &[0, -2],
+            &[5, 2]
+        )?
+    );
+    Ok(())
+}
+
+#[test]
+fn rows_of_every_item(rt: HostRuntime) -> Result<(), Fail> {
+    let alloc = rt.alloc();
+    assert!(rt;
+        indexes(
+            alloc,
+            &[2, 3, 4, 5],
+            &[at(1), run(2, -1, 3), ALL, run(4, -2, 2)],
+            104,
+            &[-20, 5, -2],
+            &[3, 4, 2]
+        )?
+    );
+    assert!(rt;
+        indexes(
+            alloc,
+            &[2, 3, 2, 1],
+            &[run(1, -1, 2), at(2), run(0, 0, 3), ALL],
+            10,
+            &[-6, 0, 0],
+            &[2, 3, 1]
+        )?
+    );
+    Ok(())
+}
+
+// An array as large as any, of which an axis doubles while another shrinks.
+#[test]
+fn a_row_of_many(rt: HostRuntime) -> Result<(), Fail> {
+    let alloc = rt.alloc();
+    assert!(rt;
+        indexes(
+            alloc,
+            &[1 << 20, 1 << 20],
+            &[run(5, 0, 1 << 21), run(3, 1, 1)],
+            5_242_883,
+            &[0, 0],
+            &[1 << 21, 1]
+        )?
+    );
+    Ok(())
+}
+
+fn extends(
+    alloc: Global,
+    of: &[u64],
+    to: &[u64],
+    base: Cell,
+    strides: &[Cell],
+    lengths: &[u64],
+) -> Result<bool, Fail>
+    requires shape { IsShape of.now }
+    requires size { size_of of.now ≡ 1 }
+    requires to { IsShape to.now }
+{
+    let by = Selection::Extend {
+        to: shape(alloc, to),
+    };
+    selects(alloc, of, &by, base, strides, lengths)
+}
+
+#[test]
+fn extension_rows(rt: HostRuntime) -> Result<(), Fail> {
+    let alloc = rt.alloc();
+    assert!(rt; extends(alloc, &[], &[], 0, &[], &[])?);
+    assert!(rt; extends(alloc, &[], &[2, 3], 0, &[0, 0], &[2, 3])?);
+    assert!(rt; extends(alloc, &[1], &[0], 0, &[0], &[0])?);
+    assert!(rt;
+        extends(
+            alloc,
+            &[1, 1],
+            &[2, 1, 3, 2],
+            0,
+            &[0, 0, 0, 0],
+            &[2, 1, 3, 2]
+        )?
+    );
+    Ok(())
+}
+
+fn joins_left(
+    alloc: Global,
+    of: &[u64],
+    right: &[u64],
+    base: Cell,
+    strides: &[Cell],
+    lengths: &[u64],
+) -> Result<bool, Fail>
+    requires shape { IsShape of.now }
+    requires right { IsShape right.now }
+    requires joined { IsShape (of.now ++ right.now) }
+{
+    let by = Selection::OuterLeft {
+        right: shape(alloc, right),
+    };
+    selects(alloc, of, &by, base, strides, lengths)
+}
+
+fn joins_right(
+    alloc: Global,
+    of: &[u64],
+    left: &[u64],
+    base: Cell,
+    strides: &[Cell],
+    lengths: &[u64],
+) -> Result<bool, Fail>
+    requires shape { IsShape of.now }
+    requires left { IsShape left.now }
+    requires joined { IsShape (left.now ++ of.now) }
+{
+    let by = Selection::OuterRight {
+        left: shape(alloc, left),
+    };
+    selects(alloc, of, &by, base, strides, lengths)
+}
+
+#[test]
+fn outer_rows(rt: HostRuntime) -> Result<(), Fail> {
+    let alloc = rt.alloc();
+    assert!(rt; joins_left(alloc, &[], &[2], 0, &[0], &[2])?);
+    assert!(rt; joins_left(alloc, &[3], &[], 0, &[1], &[3])?);
+    assert!(rt; joins_left(alloc, &[2], &[0], 0, &[0, 0], &[2, 0])?);
+    assert!(rt; joins_left(alloc, &[2, 1], &[3, 2], 0, &[1, 0, 0, 0], &[2, 1, 3, 2])?);
+    assert!(rt; joins_right(alloc, &[], &[2], 0, &[0], &[2])?);
+    assert!(rt; joins_right(alloc, &[3], &[], 0, &[1], &[3])?);
+    assert!(rt; joins_right(alloc, &[2], &[0], 0, &[0, 0], &[0, 2])?);
+    assert!(rt; joins_right(alloc, &[1, 2], &[3, 2], 0, &[0, 0, 0, 1], &[3, 2, 1, 2])?);
     Ok(())
 }
