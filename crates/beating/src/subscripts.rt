@@ -44,25 +44,13 @@ fn part_of(item: Item, n: u64, longer: bool) -> Item
     ensures { result ≡ part_of longer item n }
 {
     match item {
-        Item::All => Item::All,
-        Item::At { i } => {
-            if longer {
-                Item::All
-            } else {
-                Item::Run {
-                    from: i,
-                    step: 0,
-                    n: 1,
-                }
-            }
-        }
-        Item::Run { n: count, .. } => {
-            if longer == (n < count) {
-                item
-            } else {
-                Item::All
-            }
-        }
+        Item::At { i } if !longer => Item::Run {
+            from: i,
+            step: 0,
+            n: 1,
+        },
+        Item::Run { n: count, .. } if longer == (n < count) => item,
+        _ => Item::All,
     }
 }
 
