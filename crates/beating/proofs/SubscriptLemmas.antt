@@ -1,10 +1,10 @@
 -- The two passes and the end together are the subscript.
-use Rattle.std.proofs.Common.{◌≡◌, ℕ, zero, suc, ◌+◌, ◌*◌, ◌^◌, ◌<◌, ◌≤◌, Bool, true, false, ℤ, pos, List, [], ◌∷◌, length, map, refl, sym, ap, ◌∙◌, subst, arith, le-ltb, lit≤}
-use Rattle.std.specs.Prelude.{nat_lt, if◌then◌else◌, unsigned_abs}
+use Rattle.std.proofs.Common.{◌≡◌, ℕ, suc, ◌*◌, ◌^◌, ◌<◌, ◌≤◌, Bool, true, false, ℤ, pos, List, [], ◌∷◌, length, map, refl, sym, ap, ◌∙◌, subst, arith, le-ltb, lit≤}
+use Rattle.std.specs.Prelude.{nat_lt}
 use Rattle.std.specs.List.{AllByRecursion}
 use Rattle.std.proofs.lemmas.Int.{ints}
 use Rattle.apl_base.specs.Array.{IsShape, IsIndex, size_of}
-use Rattle.apl_base.specs.Selection.{Position, whole, one, run, run_place, only_index, subscript_shape, subscript_index}
+use Rattle.apl_base.specs.Selection.{run_place, subscript_shape, subscript_index}
 use Rattle.array_desc.specs.Desc.{DescView, Selects, RunFits}
 use Rattle.array_desc.specs.Steps.{paired}
 use Rattle.beating.specs.declared.selections.Item.{Item}
@@ -40,6 +40,7 @@ record Applied (from : ℕ) (step : ℤ) (count n : ℕ) : Type 0 where
   first_fits : RunFits n from step count → PartFits (part_of false (item.Run from step count) n) n
   second_fits : RunFits n from step count → PartFits (part_of true (item.Run from step count) (after_one (item.Run from step count) n)) (after_one (item.Run from step count) n)
 
+-- where it makes the axis longer
 applied_longer : (from : ℕ) (step : ℤ) (count n : ℕ) → nat_lt n count ≡ true → Applied from step count n
 applied_longer from step count n e = record {
   length = rw (e, e) refl;
@@ -48,6 +49,7 @@ applied_longer from step count n e = record {
   second_fits = λ h. rw (e, e) h;
 }
 
+-- where it doesn't
 applied_shorter : (from : ℕ) (step : ℤ) (count n : ℕ) → nat_lt n count ≡ false → nat_lt count count ≡ false → Applied from step count n
 applied_shorter from step count n e g = record {
   length = rw (e, g) refl;
@@ -56,6 +58,7 @@ applied_shorter from step count n e g = record {
   second_fits = λ h. rw (e, g) tt;
 }
 
+-- in either case
 applied : (from : ℕ) (step : ℤ) (count n : ℕ) → Applied from step count n
 applied from step count n = by (nat_lt n count) refl
   where
@@ -70,11 +73,13 @@ one_fits i n h = record {
   high = λ j b. omega (arith, ints);
 }
 
+-- whose place is the one
 one_place : (i : ℕ) → run_place i (pos 0) 0 ≡ i
 one_place i = omega (arith, ints)
 
 -- ---- all axes
 
+-- an item for each axis
 pub length-items : (items : List Item) (ns : List ℕ) → ItemsFit items ns → length items ≡ length ns
 length-items [] [] h = refl
 length-items (item.All ∷ items) (n ∷ ns) h = ap suc (length-items items ns h)
@@ -85,6 +90,7 @@ length-items (item.All ∷ items) [] h = absurd h
 length-items (item.At i ∷ items) [] h = absurd h
 length-items (item.Run from step count ∷ items) [] h = absurd h
 
+-- the parts of the first pass fit
 first_pass : (items : List Item) (ns : List ℕ) → ItemsFit items ns → PartsFit (parts_of false items ns) ns
 first_pass [] [] h = tt
 first_pass (item.All ∷ items) (n ∷ ns) h = (tt, first_pass items ns h)
@@ -95,6 +101,7 @@ first_pass (item.All ∷ items) [] h = absurd h
 first_pass (item.At i ∷ items) [] h = absurd h
 first_pass (item.Run from step count ∷ items) [] h = absurd h
 
+-- and those of the second
 second_pass : (items : List Item) (ns : List ℕ) → ItemsFit items ns → PartsFit (parts_of true items (shortened items ns)) (shortened items ns)
 second_pass [] [] h = tt
 second_pass (item.All ∷ items) (n ∷ ns) h = (tt, second_pass items ns h)
@@ -158,6 +165,7 @@ ends_size (item.All ∷ items) [] o = absurd o
 ends_size (item.At i ∷ items) [] o = absurd o
 ends_size (item.Run from step count ∷ items) [] o = absurd o
 
+-- and so may be bounded
 ends_each : (b : ℕ) (items : List Item) (ns : List ℕ) → 1 ≤ b → OneLeft items ns → AllByRecursion (λ n. n ≤ b) (subscript_shape (map end_of items) ns) → AllByRecursion (λ n. n ≤ b) ns
 ends_each b [] [] p o h = tt
 ends_each b (item.All ∷ items) (n ∷ ns) p o h = (h.0, ends_each b items ns p o h.1)
@@ -168,14 +176,17 @@ ends_each b (item.All ∷ items) [] p o h = absurd o
 ends_each b (item.At i ∷ items) [] p o h = absurd o
 ends_each b (item.Run from step count ∷ items) [] p o h = absurd o
 
+-- as many axes after the first pass
 length-shortened : (items : List Item) (ns : List ℕ) → length items ≡ length ns → length (shortened items ns) ≡ length ns
 length-shortened items ns e = length-paired part_length (parts_of false items ns) ns (length-parts false items ns e)
 
+-- and after the second
 length-lengthened : (items : List Item) (ns : List ℕ) → length items ≡ length ns → length (lengthened items ns) ≡ length ns
 length-lengthened items ns e =
     let m = length-shortened items ns e in
     length-paired part_length (parts_of true items (shortened items ns)) (shortened items ns) (length-parts true items (shortened items ns) (omega (arith, e, m))) ∙ m
 
+-- the lengths after the second pass make a shape
 lengthened_is_shape : (items : List Item) (ns : List ℕ) → ItemsFit items ns → IsShape ns → IsShape (subscript_shape (map position_of items) ns) → IsShape (lengthened items ns)
 lengthened_is_shape items ns h s t =
     let ends : IsShape (subscript_shape (map end_of items) (lengthened items ns)) = subst IsShape (sym (final_shape items ns h)) t in
@@ -187,18 +198,20 @@ lengthened_is_shape items ns h s t =
 
 -- ---- what the calls ask for, and what they come to
 
+-- the first pass may be made
 pub first_passable : (items : List Item) (ns : List ℕ) → ItemsFit items ns → IsShape ns → Passable false items ns
 first_passable items ns h s = record {
   count = length-items items ns h;
   fit = first_pass items ns h;
   before = s;
-  after = all_shorter items ns (length-items items ns h) (first_pass items ns h) s;
+  after = all_shorter items ns (first_pass items ns h) s;
 }
 
 -- after the first pass
 abbrev pub Shortened : List Item → DescView → DescView → Type 0
 Shortened items a b = Selects a b (shortened items a.shape) (paired part_place (parts_of false items a.shape))
 
+-- the second pass may be made
 pub second_passable : (items : List Item) (a b : DescView) → ItemsFit items a.shape → IsShape a.shape → IsShape (subscript_shape (map position_of items) a.shape) → Shortened items a b → Passable true items b.shape
 second_passable items a b h s t first =
     let ns : List ℕ = a.shape in
@@ -206,7 +219,7 @@ second_passable items a b h s t first =
     subst (Passable true items) (sym first.shape) (record {
       count = omega (arith, e, length-shortened items ns e);
       fit = second_pass items ns h;
-      before = all_shorter items ns e (first_pass items ns h) s;
+      before = all_shorter items ns (first_pass items ns h) s;
       after = lengthened_is_shape items ns h s t;
     })
 
@@ -214,9 +227,11 @@ second_passable items a b h s t first =
 abbrev pub Lengthened : List Item → DescView → DescView → Type 0
 Lengthened items b c = Selects b c (paired part_length (parts_of true items b.shape) b.shape) (paired part_place (parts_of true items b.shape))
 
+-- the lengths after both
 lengths_are : (items : List Item) (a b c : DescView) → Shortened items a b → Lengthened items b c → c.shape ≡ lengthened items a.shape
 lengths_are items a b c first second = second.shape ∙ ap (λ (ns : List ℕ). paired part_length (parts_of true items ns) ns) first.shape
 
+-- the axes that go away have length 1
 pub ones_left : (items : List Item) (a b c : DescView) → ItemsFit items a.shape → Shortened items a b → Lengthened items b c → OneLeft items c.shape
 ones_left items a b c h first second = subst (OneLeft items) (sym (lengths_are items a b c first second)) (one_left items a.shape h)
 
