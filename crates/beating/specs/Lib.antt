@@ -1,3 +1,4 @@
 pub mod Selecting
 pub mod Runs
 pub mod Folds
+pub mod Passes

@@ -1,6 +1,6 @@
 -- What a selection keeps of an array, when it may be made, and what becomes of a pending expression.
 use Rattle.std.specs.Prelude.{◌≡◌, ℕ, ◌<◌, List, [], ◌∷◌, ◌++◌, length, map}
-use Rattle.apl_base.specs.Array.{Array, IsShape, IsIndex, size_of, index_at, cell_at}
+use Rattle.apl_base.specs.Array.{Array, IsShape, size_of, index_at, cell_at}
 use Rattle.apl_base.specs.Selection.{Position, whole, one, run, CountsFit, take_shape, take_index, drop_shape, drop_index, reverse_index, AreAxes, axes_rank, transpose_shape, transpose_index, subscript_shape, subscript_index, only_index, outer_left_index, outer_right_index, upward}
 use Rattle.array_desc.specs.Desc.{DescView, Selects, RunFits}
 use Rattle.drag_along.specs.declared.leaves.Leaf.{Leaf}

@@ -6,6 +6,9 @@ mod folds;
 mod runs;
 mod selecting;
 mod selections;
+mod subscripts;
+#[cfg(test)]
+mod tests;
 
 pub use folds::{fold1, fold2};
 pub use runs::{Run, as_progression};

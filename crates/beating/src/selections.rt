@@ -2,9 +2,10 @@ use apl_base::Shape;
 use smallvec::SmallVec;
 
 /// What a subscript keeps of an axis.
-#[derive(Drop)]
+#[derive(Clone, Copy, Debug, Default, PartialEq, Eq)]
 pub enum Item {
     /// All of it.
+    #[default]
     All,
     /// One place; the axis is gone.
     At { i: u64 },
