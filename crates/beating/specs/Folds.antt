@@ -24,8 +24,11 @@ abbrev pub IsNumbers : SegmentView → Type 0
 IsNumbers s = IsTrue (is_some (only_numbers s.nodes))
 
 -- all strides are 0: the same number everywhere
+abbrev pub AllRest : List ℤ → Type 0
+AllRest strides = AllByRecursion (λ stride. stride ≡ pos 0) strides
+
 abbrev pub IsConstant : SegmentView → Type 0
-IsConstant s = ForSome (only_numbers s.nodes) (λ desc. AllByRecursion (λ stride. stride ≡ pos 0) desc.strides)
+IsConstant s = ForSome (only_numbers s.nodes) (λ desc. AllRest desc.strides)
 
 -- where a segment is one leaf of numbers, these lie in its range
 abbrev pub NumbersInRange : SegmentView → Type 0

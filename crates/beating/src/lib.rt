@@ -4,6 +4,7 @@
 
 mod folds;
 mod runs;
+mod scaling;
 mod selecting;
 mod selections;
 
