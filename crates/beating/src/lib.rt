@@ -2,6 +2,7 @@
 //! `×` stays one. No element is computed.
 #![tactic(auto)]
 
+mod combining;
 mod folds;
 mod runs;
 mod scaling;
