@@ -1,2 +1,3 @@
 pub mod ScaleLemmas
 pub mod CombineLemmas
+pub mod FoldLemmas

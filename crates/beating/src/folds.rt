@@ -1,4 +1,4 @@
-ghost use Rattle.std.specs.Prelude.{◌≡◌, ◌↔◌, None, Some, IsSome, IfSome, MatchOption};
+ghost use Rattle.std.specs.Prelude.{◌≡◌, ◌↔◌, ◌⊎◌, IsTrue, None, Some, IsSome, IfSome, MatchOption};
 ghost use Rattle.apl_base.specs.declared.faults.Place.{Place};
 ghost use Rattle.apl_base.specs.declared.cells.Kind.TheVariants.{Num};
 ghost use Rattle.apl_base.specs.Interval.{IsInterval};
@@ -6,7 +6,7 @@ ghost use Rattle.drag_along.specs.declared.leaves.Leaf.TheVariants.{Gen};
 ghost use Rattle.drag_along.specs.Meaning.{combined1, combined2, entry};
 ghost use Rattle.drag_along.specs.Segments.{IsSegment, side_of};
 ghost use Rattle.drag_along.specs.Views.{only_numbers};
-ghost use Rattle.beating.specs.Folds.{Folds1, Folds2, FoldsTo, NumbersInRange};
+ghost use Rattle.beating.specs.Folds.{AllRest, Folds1, Folds2, FoldsTo, NumbersInRange};
 
 use crate::combining::combined;
 use crate::scaling::{is_constant, scaled};
@@ -25,10 +25,8 @@ pub fn fold1(s: &Segment, f: Mon) -> Option<Leaf>
     if f != Mon::Minus {
         return None;
     }
-    match only_numbers(s) {
-        Some(desc) => Some(numbers(scaled(desc, -1))),
-        None => None,
-    }
+    let desc = only_numbers(s)?;
+    Some(numbers(scaled(desc, -1)))
 }
 
 /// `A f B` as a progression: a leaf exactly where `f` is `+`, `-` or `×`, both are one leaf of numbers that are not
@@ -44,13 +42,16 @@ pub fn fold2(f: Dya, left: &Segment, right: &Segment) -> Option<Leaf>
 {
     let a = only_numbers(left)?;
     let b = only_numbers(right)?;
-    if !is_constant(a) && !is_constant(b) {
-        return None;
-    }
-    if !range2(f, side_of(left), side_of(right)).safe {
+    if !one_is_constant(a, b) || !range2(f, side_of(left), side_of(right)).safe {
         return None;
     }
     Some(numbers(combined(f, a, b)?))
+}
+
+fn one_is_constant(a: &Desc, b: &Desc) -> bool
+    ensures { IsTrue result ↔ (AllRest a.now.strides ⊎ AllRest b.now.strides) }
+{
+    is_constant(a) || is_constant(b)
 }
 
 // What the interval rules are told of a segment.
