@@ -1,3 +1,4 @@
 pub mod ScaleLemmas
 pub mod CombineLemmas
 pub mod FoldLemmas
+pub mod RunLemmas
