@@ -8,6 +8,8 @@ mod runs;
 mod scaling;
 mod selecting;
 mod selections;
+#[cfg(test)]
+mod run_tests;
 
 pub use folds::{fold1, fold2};
 pub use runs::{Run, as_progression};
