@@ -4,7 +4,7 @@ ghost use Rattle.apl_base.specs.Number.{IsNumber};
 ghost use Rattle.array_desc.specs.Desc.{number as number_of};
 ghost use Rattle.beating.specs.Folds.{NumbersInRange};
 
-use crate::{Run, as_progression, fold1, fold2};
+use crate::{as_progression, fold1, fold2};
 use apl_base::{Cell, Dya, Kind, M, Mon, NoMemory};
 use array_desc::Desc;
 use array_store::{BeginFault, Store};
@@ -45,7 +45,7 @@ fn found(
     alloc: Global,
     numbers: &[Cell],
     backwards: bool,
-) -> Result<(Option<Run>, u64), BeginFault>
+) -> Result<(Option<(Cell, Cell, u64)>, u64), BeginFault>
     requires { length numbers.now ≤ 9 }
 {
     let mut store = Store::new(alloc, 9);
@@ -57,27 +57,31 @@ fn found(
         desc,
         kind: Kind::Num,
     };
-    let run = as_progression(&leaf, &mut store);
+    let run = as_progression(&leaf, &mut store).map(|run| (run.from, run.step, run.n));
     Ok((run, store.counts().fetched))
 }
 
-fn run(from: Cell, step: Cell, n: u64) -> Option<Run> {
-    Some(Run { from, step, n })
-}
+// Numbers, whether they are read backwards, the first number, the step and the count of their progression, and the
+// fetches that tell.
+const VECTORS: [(&[Cell], bool, Option<(Cell, Cell, u64)>, u64); 10] = [
+    (&[], false, Some((0, 0, 0)), 0),
+    (&[7], false, Some((7, 0, 1)), 1),
+    (&[M, -M], false, Some((M, -2 * M, 2)), 2),
+    (&[-M, 0, M], false, Some((-M, M, 3)), 3),
+    (&[3, 5, 7, 9], false, Some((3, 2, 4)), 4),
+    (&[9, 4, -1], false, Some((9, -5, 3)), 3),
+    (&[6, 6, 6], false, Some((6, 0, 3)), 3),
+    (&[2, 5, 8], true, Some((8, -3, 3)), 3),
+    (&[1, 2, 4, 5], false, None, 3),
+    (&[1, 2, 3, 4, 6], false, None, 5),
+];
 
 #[test]
 fn progressions(rt: HostRuntime) -> Result<(), Fail> {
-    let alloc = rt.alloc();
-    assert_eq!(rt; found(alloc, &[], false)?, (run(0, 0, 0), 0));
-    assert_eq!(rt; found(alloc, &[7], false)?, (run(7, 0, 1), 1));
-    assert_eq!(rt; found(alloc, &[M, -M], false)?, (run(M, -2 * M, 2), 2));
-    assert_eq!(rt; found(alloc, &[-M, 0, M], false)?, (run(-M, M, 3), 3));
-    assert_eq!(rt; found(alloc, &[3, 5, 7, 9], false)?, (run(3, 2, 4), 4));
-    assert_eq!(rt; found(alloc, &[9, 4, -1], false)?, (run(9, -5, 3), 3));
-    assert_eq!(rt; found(alloc, &[6, 6, 6], false)?, (run(6, 0, 3), 3));
-    assert_eq!(rt; found(alloc, &[2, 5, 8], true)?, (run(8, -3, 3), 3));
-    assert_eq!(rt; found(alloc, &[1, 2, 4, 5], false)?, (None, 3));
-    assert_eq!(rt; found(alloc, &[1, 2, 3, 4, 6], false)?, (None, 5));
+    for (numbers, backwards, run, fetched) in VECTORS {
+        assert!(rt; numbers.len() <= 9);
+        assert_eq!(rt; found(rt.alloc(), numbers, backwards)?, (run, fetched), "{numbers:?}");
+    }
     Ok(())
 }
 
@@ -112,45 +116,51 @@ fn constant(alloc: Global, number: Cell) -> Result<Segment, NoMemory>
     three(alloc, number.clamp(-M, M), 0)
 }
 
-fn is_line(leaf: Option<Leaf>, from: Cell, step: Cell) -> bool {
+// The first number of a vector, and how far they are apart.
+fn line_of(leaf: Option<Leaf>) -> Option<(Cell, Cell)> {
     match leaf {
-        Some(Leaf::Gen { desc, .. }) => desc.base == from && desc.strides.as_slice() == [step].as_slice(),
-        _ => false,
+        Some(Leaf::Gen { desc, .. }) => Some((desc.base, *desc.strides.as_slice().first()?)),
+        _ => None,
     }
 }
 
 #[test]
 fn folds_of_one(rt: HostRuntime) -> Result<(), Fail> {
     let odd = line(rt.alloc(), 3, 2)?;
-    assert!(rt; is_line(fold1(&odd, Mon::Minus), -3, -2));
+    assert_eq!(rt; line_of(fold1(&odd, Mon::Minus)), Some((-3, -2)));
     assert!(rt; fold1(&odd, Mon::Plus).is_none());
     Ok(())
 }
 
+// A function of 3, 5, 7 and of a number, which stands on the left or not, and what it gives.
+const PAIRS: [(Dya, bool, Cell, Option<(Cell, Cell)>); 13] = [
+    (Dya::Add, true, 4, Some((7, 2))),
+    (Dya::Add, false, 4, Some((7, 2))),
+    (Dya::Add, false, M - 7, Some((M - 4, 2))),
+    (Dya::Add, false, M - 6, None),
+    (Dya::Sub, true, 4, Some((1, -2))),
+    (Dya::Sub, false, 4, Some((-1, 2))),
+    (Dya::Sub, true, 7 - M, Some((4 - M, -2))),
+    (Dya::Sub, true, 6 - M, None),
+    (Dya::Mul, true, 4, Some((12, 8))),
+    (Dya::Mul, false, 4, Some((12, 8))),
+    (Dya::Mul, true, M / 7, Some((M / 7 * 3, M / 7 * 2))),
+    (Dya::Mul, true, M / 7 + 1, None),
+    (Dya::Max, false, 4, None),
+];
+
 #[test]
 fn folds_of_two(rt: HostRuntime) -> Result<(), Fail> {
     let odd = line(rt.alloc(), 3, 2)?;
-    let four = constant(rt.alloc(), 4)?;
-    assert!(rt; is_line(fold2(Dya::Add, &four, &odd), 7, 2));
-    assert!(rt; is_line(fold2(Dya::Add, &odd, &four), 7, 2));
-    assert!(rt; is_line(fold2(Dya::Sub, &four, &odd), 1, -2));
-    assert!(rt; is_line(fold2(Dya::Sub, &odd, &four), -1, 2));
-    assert!(rt; is_line(fold2(Dya::Mul, &four, &odd), 12, 8));
-    assert!(rt; is_line(fold2(Dya::Mul, &odd, &four), 12, 8));
     assert!(rt; fold2(Dya::Add, &odd, &odd).is_none());
-    assert!(rt; fold2(Dya::Max, &odd, &four).is_none());
-    Ok(())
-}
-
-// The greatest of the numbers is 7.
-#[test]
-fn folds_up_to_the_greatest_number(rt: HostRuntime) -> Result<(), Fail> {
-    let odd = line(rt.alloc(), 3, 2)?;
-    assert!(rt; is_line(fold2(Dya::Add, &odd, &constant(rt.alloc(), M - 7)?), M - 4, 2));
-    assert!(rt; fold2(Dya::Add, &odd, &constant(rt.alloc(), M - 6)?).is_none());
-    assert!(rt; is_line(fold2(Dya::Sub, &constant(rt.alloc(), 7 - M)?, &odd), 4 - M, -2));
-    assert!(rt; fold2(Dya::Sub, &constant(rt.alloc(), 6 - M)?, &odd).is_none());
-    assert!(rt; is_line(fold2(Dya::Mul, &constant(rt.alloc(), M / 7)?, &odd), M / 7 * 3, M / 7 * 2));
-    assert!(rt; fold2(Dya::Mul, &constant(rt.alloc(), M / 7 + 1)?, &odd).is_none());
+    for (f, on_left, number, want) in PAIRS {
+        let same = constant(rt.alloc(), number)?;
+        let leaf = if on_left {
+            fold2(f, &same, &odd)
+        } else {
+            fold2(f, &odd, &same)
+        };
+        assert_eq!(rt; line_of(leaf), want, "{f:?} {number}");
+    }
     Ok(())
 }
