@@ -2,3 +2,4 @@ pub mod ScaleLemmas
 pub mod CombineLemmas
 pub mod FoldLemmas
 pub mod RunLemmas
+pub mod ProgressionLemmas

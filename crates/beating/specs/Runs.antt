@@ -18,6 +18,10 @@ abbrev pub IsRunIfAny : List ℤ → Option Run → Type 0
 IsRunIfAny numbers None = (r : Run) → ¬ (IsRunOf numbers r)
 IsRunIfAny numbers (Some r) = IsRunOf numbers r
 
+-- numbers are a progression in one way only
+abbrev pub OneRun : Type 0
+OneRun = (numbers : List ℤ) (r s : Run) → IsRunOf numbers r → IsRunOf numbers s → r ≡ s
+
 -- the numbers of a descriptor, in row-major order
 abbrev pub numbers_of : DescView → List ℤ
 numbers_of d = map (λ p. number d (index_at d.shape p)) (upward 0 (size_of d.shape))

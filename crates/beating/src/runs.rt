@@ -8,7 +8,7 @@ ghost use Rattle.drag_along.specs.declared.leaves.Leaf.TheVariants.{Stored};
 ghost use Rattle.drag_along.specs.Nodes.{leaf_kind, leaf_shape, stored_of_leaf};
 ghost use Rattle.drag_along.specs.Meaning.{leaf_array};
 ghost use Rattle.drag_along.specs.Lawful.{IsLawfulLeaf, LiesIn};
-ghost use Rattle.beating.specs.Runs.{IsRunOf, IsRunIfAny, numbers_of, vector_cell, after_fetches};
+ghost use Rattle.beating.specs.Runs.{IsRunOf, IsRunIfAny, OneRun, numbers_of, vector_cell, after_fetches};
 
 use apl_base::Cell;
 use array_desc::Desc;
@@ -58,6 +58,7 @@ fn run_of_cells(owner: OwnerId, desc: &Desc, store: &mut Store) -> Option<Run>
     ensures run { IsRunIfAny (leaf_array store.old desc.now.shape (Stored owner desc.now Num)).cells result }
     ensures fetched { OnlyFetched store.old store.new (size_of desc.now.shape) }
 {
+    // Both tell the proof that what they count fits its type.
     let _cells = store.cells(owner);
     let _counts = store.counts();
     let n = desc.size();
@@ -96,3 +97,8 @@ fn cell_at(owner: OwnerId, desc: &Desc, j: u64, store: &mut Store) -> Cell
 {
     store.fetch(owner, desc.number_at(&[j]) as u64)
 }
+
+/// Numbers are a progression in one way only.
+pub fn one_progression()
+    ensures { OneRun }
+{}
