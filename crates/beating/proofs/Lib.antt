@@ -5,3 +5,8 @@ pub mod SubscriptLemmas
 pub mod NodeLemmas
 pub mod LeafLemmas
 pub mod MeaningLemmas
+pub mod ScaleLemmas
+pub mod CombineLemmas
+pub mod FoldLemmas
+pub mod RunLemmas
+pub mod ProgressionLemmas

@@ -1,5 +1,5 @@
 -- When a function of progressions is a progression again.
-use Rattle.std.specs.Prelude.{◌≡◌, ◌⊎◌, ℕ, true, ℤ, pos, List, Option, Some, None, IsTrue, is_some}
+use Rattle.std.specs.Prelude.{◌≡◌, ◌⊎◌, ℕ, true, ℤ, pos, ◌+ℤ◌, ◌-ℤ◌, ◌*ℤ◌, List, Option, Some, None, IsTrue, is_some}
 use Rattle.std.specs.List.{AllByRecursion}
 use Rattle.std.specs.Option.{ForSome}
 use Rattle.apl_base.specs.declared.cells.Kind.TheVariants.{Num}
@@ -10,7 +10,8 @@ use Rattle.apl_base.specs.declared.rows.Mon.{Mon}
 use Rattle.apl_base.specs.declared.rows.Mon.TheVariants.{Minus}
 use Rattle.apl_base.specs.Array.{IsIndex}
 use Rattle.apl_base.specs.Interval.{InInterval}
-use Rattle.array_desc.specs.Desc.{DescView, number}
+use Rattle.apl_base.specs.Number.{IsNumber}
+use Rattle.array_desc.specs.Desc.{DescView, IsDesc, number}
 use Rattle.array_store.specs.Stores.{StoreView}
 use Rattle.value_range.specs.Interval.{ranged2}
 use Rattle.drag_along.specs.declared.leaves.Leaf.{Leaf}
@@ -24,8 +25,11 @@ abbrev pub IsNumbers : SegmentView → Type 0
 IsNumbers s = IsTrue (is_some (only_numbers s.nodes))
 
 -- all strides are 0: the same number everywhere
+abbrev pub AllRest : List ℤ → Type 0
+AllRest strides = AllByRecursion (λ stride. stride ≡ pos 0) strides
+
 abbrev pub IsConstant : SegmentView → Type 0
-IsConstant s = ForSome (only_numbers s.nodes) (λ desc. AllByRecursion (λ stride. stride ≡ pos 0) desc.strides)
+IsConstant s = ForSome (only_numbers s.nodes) (λ desc. AllRest desc.strides)
 
 -- where a segment is one leaf of numbers, these lie in its range
 abbrev pub NumbersInRange : SegmentView → Type 0
@@ -34,6 +38,27 @@ NumbersInRange s = ForSome (only_numbers s.nodes) (λ desc. (i : List ℕ) → I
 -- the functions of two arguments that keep progressions
 abbrev pub Keeps : Dya → Type 0
 Keeps f = (f ≡ Add) ⊎ ((f ≡ Sub) ⊎ (f ≡ Mul))
+
+-- what such a function gives, where that is a number
+abbrev pub exact_value : Dya → ℤ → ℤ → ℤ
+exact_value Add a b = a +ℤ b
+exact_value Sub a b = a -ℤ b
+exact_value Mul a b = a *ℤ b
+exact_value f a b = pos 0
+
+-- two descriptors of one shape, one of them the same number everywhere, at whose numbers an operation gives numbers
+pub record CanCombine (op : ℤ → ℤ → ℤ) (left right : DescView) : Type 0 where
+  pub left_lawful : IsDesc left
+  pub right_lawful : IsDesc right
+  pub shape : left.shape ≡ right.shape
+  pub constant : AllRest left.strides ⊎ AllRest right.strides
+  pub numbers : (i : List ℕ) → IsIndex right.shape i → IsNumber (op (number left i) (number right i))
+
+-- the descriptor that has at each index what the operation gives at theirs
+pub record Combines (op : ℤ → ℤ → ℤ) (left right new : DescView) : Type 0 where
+  pub lawful : IsDesc new
+  pub shape : new.shape ≡ right.shape
+  pub numbers : (i : List ℕ) → IsIndex right.shape i → number new i ≡ op (number left i) (number right i)
 
 -- `f B` is folded
 pub record Folds1 (f : Mon) (s : SegmentView) : Type 0 where

@@ -1,10 +1,19 @@
-ghost use Rattle.std.specs.Prelude.{◌≡◌, ◌↔◌, IsSome, IfSome};
+ghost use Rattle.std.specs.Prelude.{◌≡◌, ◌↔◌, ◌⊎◌, IsTrue, None, Some, IsSome, IfSome, MatchOption};
 ghost use Rattle.apl_base.specs.declared.faults.Place.{Place};
+ghost use Rattle.apl_base.specs.declared.cells.Kind.TheVariants.{Num};
+ghost use Rattle.apl_base.specs.Interval.{IsInterval};
+ghost use Rattle.drag_along.specs.declared.leaves.Leaf.TheVariants.{Gen};
 ghost use Rattle.drag_along.specs.Meaning.{combined1, combined2, entry};
-ghost use Rattle.beating.specs.Folds.{Folds1, Folds2, FoldsTo, NumbersInRange};
+ghost use Rattle.drag_along.specs.Segments.{IsSegment, side_of};
+ghost use Rattle.drag_along.specs.Views.{only_numbers};
+ghost use Rattle.beating.specs.Folds.{AllRest, Folds1, Folds2, FoldsTo, NumbersInRange};
 
-use apl_base::{Dya, Mon};
-use drag_along::{Leaf, Segment};
+use crate::combining::combined;
+use crate::scaling::{is_constant, scaled};
+use apl_base::{Dya, Kind, Mon};
+use array_desc::Desc;
+use drag_along::{Leaf, Node, Segment};
+use value_range::{Side, range2};
 
 /// `f B` as a progression: a leaf exactly where `f` is `-` and B is one leaf of numbers that are not stored. No
 /// element is computed or read, and no memory is taken.
@@ -13,7 +22,11 @@ pub fn fold1(s: &Segment, f: Mon) -> Option<Leaf>
     ensures folded { IfSome result (λ leaf. (place : Place)
         → FoldsTo s.now.shape leaf (λ store. combined1 f place (entry store s.now))) }
 {
-    unreachable!()
+    if f != Mon::Minus {
+        return None;
+    }
+    let desc = only_numbers(s)?;
+    Some(numbers(scaled(desc, -1)))
 }
 
 /// `A f B` as a progression: a leaf exactly where `f` is `+`, `-` or `×`, both are one leaf of numbers that are not
@@ -27,5 +40,55 @@ pub fn fold2(f: Dya, left: &Segment, right: &Segment) -> Option<Leaf>
     ensures folded { IfSome result (λ leaf. (place : Place)
         → FoldsTo right.now.shape leaf (λ store. combined2 f place (entry store left.now) (entry store right.now))) }
 {
-    unreachable!()
+    let a = only_numbers(left)?;
+    let b = only_numbers(right)?;
+    if !one_is_constant(a, b) || !range2(f, side_of(left), side_of(right)).safe {
+        return None;
+    }
+    Some(numbers(combined(f, a, b)?))
+}
+
+fn one_is_constant(a: &Desc, b: &Desc) -> bool
+    ensures { IsTrue result ↔ (AllRest a.now.strides ⊎ AllRest b.now.strides) }
+{
+    is_constant(a) || is_constant(b)
+}
+
+// What the interval rules are told of a segment.
+fn side_of(s: &Segment) -> Side
+    ensures side { result ≡ side_of s.now }
+    ensures interval { IsInterval result.interval }
+{
+    Side {
+        kind: s.kind,
+        interval: s.range,
+    }
+}
+
+// The descriptor of a segment that is one leaf of numbers, not stored.
+fn only_numbers(s: &Segment) -> Option<&Desc>
+    ensures found { MatchOption result (only_numbers s.now.nodes ≡ None)
+        (λ desc. only_numbers s.now.nodes ≡ Some desc.now) }
+    ensures segment { IsSegment s.now }
+{
+    match s.nodes.as_slice() {
+        [
+            Node::Operand {
+                leaf: Leaf::Gen {
+                    desc,
+                    kind: Kind::Num,
+                },
+            },
+        ] => Some(desc),
+        _ => None,
+    }
+}
+
+fn numbers(desc: Desc) -> Leaf
+    ensures { result ≡ Gen desc Num }
+{
+    Leaf::Gen {
+        desc,
+        kind: Kind::Num,
+    }
 }

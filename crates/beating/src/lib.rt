@@ -2,15 +2,21 @@
 //! `×` stays one. No element is computed.
 #![tactic(auto)]
 
+mod combining;
+mod examples;
 mod folds;
+#[cfg(test)]
+mod run_tests;
 mod runs;
+mod scaling;
 mod selecting;
 mod selections;
 mod subscripts;
 #[cfg(test)]
 mod tests;
 
+pub use examples::run_examples;
 pub use folds::{fold1, fold2};
-pub use runs::{Run, as_progression};
+pub use runs::{Run, as_progression, one_progression};
 pub use selecting::select;
 pub use selections::{Item, Selection};
