@@ -1,8 +1,8 @@
 -- Two descriptors of which one has the same number everywhere.
-use Rattle.std.proofs.Common.{◌≡◌, ℕ, Bool, true, false, IsTrue, ◌↔◌, ◌⊎◌, inl, inr, ℤ, pos, negsuc, neg_ℤ, ◌+ℤ◌, ◌-ℤ◌, ◌*ℤ◌, List, [], ◌∷◌, FitsSigned, to_z, of_z, refl, sym, ap, subst, ◌∙◌, arith}
+use Rattle.std.proofs.Common.{◌≡◌, ℕ, Bool, false, IsTrue, ◌↔◌, inl, inr, ℤ, pos, negsuc, ◌+ℤ◌, ◌-ℤ◌, ◌*ℤ◌, List, [], ◌∷◌, FitsSigned, to_z, of_z, refl, sym, ap, subst, ◌∙◌, arith}
 use Rattle.std.proofs.lemmas.Int.{ints, to_z-of_z}
 use mir.Syntax.{w128}
-use Rattle.apl_base.specs.Array.{IsIndex, size_of}
+use Rattle.apl_base.specs.Array.{IsIndex}
 use Rattle.apl_base.specs.Number.{IsNumber}
 use Rattle.array_desc.specs.Desc.{DescView, IsDesc, dot, number}
 use Rattle.beating.specs.Folds.{AllRest, CanCombine, Combines}

@@ -1,18 +1,15 @@
 -- What a segment of one leaf of numbers means, and what a function of one or two of them means.
-use Rattle.std.proofs.Common.{◌≡◌, ℕ, zero, suc, ◌+◌, ◌<◌, ◌≤◌, Bool, true, false, IsTrue, ◌⊎◌, inl, inr, ℤ, pos, negsuc, neg_ℤ, ◌+ℤ◌, ◌-ℤ◌, ◌*ℤ◌, List, [], ◌∷◌, map, Option, Some, None, if◌then◌else◌, refl, sym, ap, subst, ◌∙◌, arith}
-use Rattle.std.specs.Option.{option_map, option_and_then, ForSome}
+use Rattle.std.proofs.Common.{◌≡◌, ℕ, zero, suc, ◌+◌, ◌<◌, ◌≤◌, Bool, true, false, IsTrue, ◌⊎◌, inl, inr, ℤ, negsuc, neg_ℤ, ◌*ℤ◌, List, [], ◌∷◌, map, Option, Some, None, if◌then◌else◌, refl, sym, ap, subst, ◌∙◌, arith}
+use Rattle.std.specs.Option.{option_map, option_and_then}
 use Rattle.std.specs.List.{zip}
 use Rattle.std.proofs.lemmas.Int.{ints}
 use Rattle.apl_base.specs.declared.cells.Elem.{Elem}
-use Rattle.apl_base.specs.declared.cells.Kind.{Kind}
 use Rattle.apl_base.specs.declared.cells.Kind.TheVariants.{Num, Char}
 use Rattle.apl_base.specs.declared.faults.Place.{Place}
 use Rattle.apl_base.specs.declared.rows.Mon.{Mon}
 use Rattle.apl_base.specs.declared.rows.Mon.TheVariants.{Minus}
 use Rattle.apl_base.specs.declared.rows.Dya.{Dya}
-use Rattle.apl_base.specs.declared.rows.Dya.TheVariants.{Add, Sub, Mul}
-use Rattle.apl_base.specs.Array.{Array, IsIndex, size_of, index_at}
-use Rattle.apl_base.specs.Interval.{InInterval}
+use Rattle.apl_base.specs.Array.{IsIndex, size_of, index_at}
 use Rattle.apl_base.specs.Number.{IsNumber, is_number}
 use Rattle.apl_base.specs.Scalar.{in_range, scalar1, scalar2, number as element}
 use Rattle.apl_base.specs.Selection.{upward}
@@ -21,8 +18,7 @@ use Rattle.array_desc.specs.Desc.{DescView, IsDesc, number}
 use Rattle.array_store.specs.Stores.{StoreView}
 use Rattle.value_range.specs.declared.sides.Side.{Side}
 use Rattle.value_range.specs.declared.sides.Ranged.{Ranged}
-use Rattle.value_range.specs.Interval.{ranged2}
-use Rattle.value_range.specs.Sound.{IsMember, GivesWithin, IsSound2}
+use Rattle.value_range.specs.Sound.{IsMember, IsSound2}
 use Rattle.value_range.specs.Laws.Tests.{number_test, in_range-number}
 use Rattle.drag_along.specs.declared.leaves.Leaf.{Leaf}
 use Rattle.drag_along.specs.declared.leaves.Leaf.TheVariants.{Stored, Gen}
@@ -30,7 +26,7 @@ use Rattle.drag_along.specs.declared.nodes.Node.{Node}
 use Rattle.drag_along.specs.declared.nodes.Node.TheVariants.{Operand, One, Two}
 use Rattle.drag_along.specs.Nodes.{AllLeaves, kind_of_nodes}
 use Rattle.drag_along.specs.Segments.{SegmentView, IsSegment, HasShape, side_of}
-use Rattle.drag_along.specs.Meaning.{Meaning, Means, pending, elements, all_defined, numbers_or, applied1, applied2, combined1, combined2, leaf_array, after_nodes, newest, entry}
+use Rattle.drag_along.specs.Meaning.{Meaning, Means, pending, all_defined, numbers_or, applied1, applied2, combined1, combined2, leaf_array, after_nodes, newest, entry}
 use Rattle.drag_along.specs.Views.{only_numbers}
 use Rattle.beating.specs.Folds.{AllRest, Keeps, exact_value, CanCombine, Combines, NumbersInRange, FoldsTo}
 
@@ -176,12 +172,12 @@ pair_folds f place left right a b new leaf found other seg seg' same keeps made 
     let line' = found_line right b other seg' in
     let Q : List ℕ → List ℕ → Type 0 = λ i ns. IsIndex ns i in
     let value : (i : List ℕ) → IsIndex right.shape i → scalar2 f (element (number a i)) (element (number b i)) ≡ Some (element (number new i)) = λ i q.
-        let p = subst (Q i) (sym line'.shape) q in
-        let is_number : IsNumber (exact_value f (number a i) (number b i)) =
-        subst IsNumber (made.numbers i p) (made.lawful.numbers i (subst (Q i) (sym made.shape) p)) in
-        kept_value f (number a i) (number b i) keeps
-        ∙ ap (option_map element) (in_range-number (exact_value f (number a i) (number b i)) is_number)
-        ∙ ap (λ (z : ℤ). Some (element z)) (sym (made.numbers i p)) in
+    let p = subst (Q i) (sym line'.shape) q in
+    let is_number : IsNumber (exact_value f (number a i) (number b i)) =
+    subst IsNumber (made.numbers i p) (made.lawful.numbers i (subst (Q i) (sym made.shape) p)) in
+    kept_value f (number a i) (number b i) keeps
+    ∙ ap (option_map element) (in_range-number (exact_value f (number a i) (number b i)) is_number)
+    ∙ ap (λ (z : ℤ). Some (element z)) (sym (made.numbers i p)) in
     record {
       desc = new;
       is = is;

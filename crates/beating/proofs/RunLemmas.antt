@@ -1,5 +1,5 @@
 -- Vectors of numbers, and the fetches that read them.
-use Rattle.std.proofs.Common.{◌≡◌, ℕ, zero, suc, ◌+◌, ◌-◌, ◌*◌, ◌/◌, ◌%◌, ◌^◌, ◌<◌, ◌≤◌, min, ℤ, pos, negsuc, ◌+ℤ◌, ◌-ℤ◌, ◌*ℤ◌, ◌≤ℤ◌, ◌<ℤ◌, List, [], ◌∷◌, length, map, get_or, Fits, w64, FitsSigned, to_z, of_z, below_more, refl, sym, ap, subst, ◌∙◌, arith}
+use Rattle.std.proofs.Common.{◌≡◌, ℕ, zero, suc, ◌+◌, ◌/◌, ◌^◌, ◌<◌, ◌≤◌, ℤ, pos, negsuc, ◌+ℤ◌, ◌-ℤ◌, ◌*ℤ◌, ◌≤ℤ◌, ◌<ℤ◌, List, [], ◌∷◌, length, map, get_or, Fits, w64, FitsSigned, to_z, of_z, below_more, refl, sym, ap, subst, ◌∙◌, arith}
 use Rattle.std.specs.Prelude.{unsigned_abs}
 use Rattle.std.proofs.lemmas.Int.{ints, to_z-of_z}
 use mir.Syntax.{w128}
@@ -8,7 +8,6 @@ use Rattle.apl_base.specs.Array.{IsIndex, size_of, index_at}
 use Rattle.apl_base.specs.Number.{IsNumber}
 use Rattle.apl_base.specs.Selection.{upward}
 use Rattle.array_desc.specs.Desc.{DescView, IsDesc, ShortAxesRest, dot, number}
-use Rattle.array_desc.proofs.Algebra.{mul_add}
 use Rattle.array_store.specs.Stores.{StoreView, counted, cells_of}
 use Rattle.array_store.specs.Counting.{OnlyFetched}
 use Rattle.drag_along.specs.declared.leaves.Leaf.TheVariants.{Stored}
@@ -126,6 +125,7 @@ first_of b (s ∷ ss) ns j e h = ap (λ (x : ℤ). b +ℤ x) (plus_none (s *ℤ 
     none_left : (ss : List ℤ) → dot ss [] ≡ pos 0
     none_left [] = refl
     none_left (s ∷ ss) = refl
+
     plus_none : (x y : ℤ) → y ≡ pos 0 → x +ℤ y ≡ x
     plus_none x y e = omega (arith, ints, e)
 

@@ -1,7 +1,6 @@
 -- Descriptors with something added to each number, or each number multiplied.
-use Rattle.std.proofs.Common.{◌≡◌, ℕ, zero, suc, ◌+◌, ◌<◌, ◌≤◌, ℤ, pos, ◌+ℤ◌, ◌*ℤ◌, List, [], ◌∷◌, ◌++◌, length, map, take, get_or, refl, sym, ap, subst, ◌∙◌, arith, inr}
+use Rattle.std.proofs.Common.{◌≡◌, ℕ, zero, suc, ℤ, pos, ◌+ℤ◌, ◌*ℤ◌, List, [], ◌∷◌, length, map, refl, sym, ap, subst, ◌∙◌, arith, inr}
 use Rattle.std.specs.Int.{int_wrap}
-use Rattle.std.specs.List.{AllByRecursion}
 use Rattle.std.specs.Int.RustNames.{FitsSigned}
 use Rattle.std.proofs.lemmas.Int.{ints, to_z-of_z}
 use Rattle.std.proofs.Math.IntN.{*ℤ_comm}
@@ -9,7 +8,7 @@ use mir.Syntax.{w128}
 use mir.Val.{to_z, of_z}
 use Rattle.apl_base.specs.Array.{IsIndex, size_of}
 use Rattle.apl_base.specs.Number.{IsNumber}
-use Rattle.array_desc.specs.Desc.{DescView, IsDesc, IsZero, ShortAxesRest, dot, number}
+use Rattle.array_desc.specs.Desc.{DescView, IsDesc, ShortAxesRest, dot, number}
 use Rattle.array_desc.proofs.Algebra.{add_mul, mul_assoc}
 use Rattle.array_desc.proofs.Indices.{index_with_size}
 use Rattle.array_desc.proofs.Sums.{Numbers, Near, near-dot, number_at_first, number_fits}

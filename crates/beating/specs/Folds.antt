@@ -1,9 +1,8 @@
 -- When a function of progressions is a progression again.
-use Rattle.std.specs.Prelude.{◌≡◌, ◌⊎◌, ℕ, true, ℤ, pos, ◌+ℤ◌, ◌-ℤ◌, ◌*ℤ◌, List, Option, Some, None, IsTrue, is_some}
+use Rattle.std.specs.Prelude.{◌≡◌, ◌⊎◌, ℕ, true, ℤ, pos, ◌+ℤ◌, ◌-ℤ◌, ◌*ℤ◌, List, IsTrue, is_some}
 use Rattle.std.specs.List.{AllByRecursion}
 use Rattle.std.specs.Option.{ForSome}
 use Rattle.apl_base.specs.declared.cells.Kind.TheVariants.{Num}
-use Rattle.apl_base.specs.declared.faults.Place.{Place}
 use Rattle.apl_base.specs.declared.rows.Dya.{Dya}
 use Rattle.apl_base.specs.declared.rows.Dya.TheVariants.{Add, Sub, Mul}
 use Rattle.apl_base.specs.declared.rows.Mon.{Mon}
@@ -17,7 +16,7 @@ use Rattle.value_range.specs.Interval.{ranged2}
 use Rattle.drag_along.specs.declared.leaves.Leaf.{Leaf}
 use Rattle.drag_along.specs.declared.leaves.Leaf.TheVariants.{Gen}
 use Rattle.drag_along.specs.Segments.{SegmentView, HasShape, side_of}
-use Rattle.drag_along.specs.Meaning.{Meaning, Means, leaf_array, entry}
+use Rattle.drag_along.specs.Meaning.{Meaning, Means, leaf_array}
 use Rattle.drag_along.specs.Views.{only_numbers}
 
 -- a segment that is one leaf of numbers, not stored
@@ -28,6 +27,7 @@ IsNumbers s = IsTrue (is_some (only_numbers s.nodes))
 abbrev pub AllRest : List ℤ → Type 0
 AllRest strides = AllByRecursion (λ stride. stride ≡ pos 0) strides
 
+-- where a segment is one leaf of numbers, they are the same number
 abbrev pub IsConstant : SegmentView → Type 0
 IsConstant s = ForSome (only_numbers s.nodes) (λ desc. AllRest desc.strides)
 

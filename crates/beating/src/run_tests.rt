@@ -80,7 +80,11 @@ const VECTORS: [(&[Cell], bool, Option<(Cell, Cell, u64)>, u64); 10] = [
 fn progressions(rt: HostRuntime) -> Result<(), Fail> {
     for (numbers, backwards, run, fetched) in VECTORS {
         assert!(rt; numbers.len() <= 9);
-        assert_eq!(rt; found(rt.alloc(), numbers, backwards)?, (run, fetched), "{numbers:?}");
+        assert_eq!(rt;
+            found(rt.alloc(), numbers, backwards)?,
+            (run, fetched),
+            "{numbers:?}"
+        );
     }
     Ok(())
 }

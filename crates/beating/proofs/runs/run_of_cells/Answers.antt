@@ -1,7 +1,7 @@
-use Rattle.std.proofs.Common.{ℤ, to_z, of_z, ◌-ℤ◌, sym, ap, ◌∙◌, arith}
+use Rattle.std.proofs.Common.{ℤ, to_z, of_z, ◌-ℤ◌, ap, ◌∙◌, arith}
 use mir.Syntax.{w128}
 use Rattle.beating.specs.Runs.{vector_cell}
-use Rattle.beating.proofs.RunLemmas.{run_of_none, run_of_one, vector_of, lies_after, number_is, difference_is, rising_start, rising_more, rising_broken, rising_end, same_difference, other_difference}
+use Rattle.beating.proofs.RunLemmas.{run_of_one, vector_of, lies_after, number_is, difference_is, rising_start, rising_more, rising_broken, rising_end, same_difference, other_difference}
 use Rattle.beating.proofs.runs.run_of_cells.Goals as goal
 
 pub returns-then-n-eq1-clause-run : goal.returns-then-n-eq1-clause-run

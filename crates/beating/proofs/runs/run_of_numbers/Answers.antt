@@ -1,8 +1,8 @@
-use Rattle.std.proofs.Common.{get_or, pos, ℤ, List, ap, subst, ◌∙◌, rules}
+use Rattle.std.proofs.Common.{get_or, pos, ℤ, List, ap, ◌∙◌, rules}
 use Rattle.std.proofs.lemmas.Int.{to_z-of_z}
 use mir.Val.{SFits}
 use mir.Syntax.{w128}
-use Rattle.array_desc.specs.Desc.{DescView, IsDesc}
+use Rattle.array_desc.specs.Desc.{DescView}
 use Rattle.beating.proofs.RunLemmas.{run_of_desc}
 use Rattle.beating.proofs.runs.run_of_numbers.Goals as goal
 

@@ -1,4 +1,4 @@
-use Rattle.std.proofs.Common.{ℤ, ℕ, List, ◌∙◌, sym, ap, subst, rules}
+use Rattle.std.proofs.Common.{◌∙◌, sym, ap, subst, rules}
 use mir.Val.{SFits}
 use mir.Syntax.{w128}
 use Rattle.array_desc.specs.Desc.{DescView, IsDesc, number}
