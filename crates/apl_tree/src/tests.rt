@@ -1,4 +1,5 @@
-use crate::statements::{Reading, read, statement};
+use crate::lookups::Lookup;
+use crate::statements::{Reading, read, statement, statement_among};
 use apl_base::{Cell, Name, Place};
 use apl_model::{Classes, Expr, Heading, Statement, Token, Word};
 use apl_read::{ReadFault, tokens};
@@ -441,26 +442,28 @@ fn long_lines_are_read(rt: HostRuntime) -> Result<(), Fail> {
     Ok(())
 }
 
-/// What is said of the first line of a script, where it has one.
-fn first_statement(
+/// What is said of the first line of a script, where it has one: over listed classes, and over prepared ones.
+fn first_statements(
     alloc: Global,
     script: &str,
-) -> Result<Option<Result<Statement, ReadFault>>, Fail> {
-    let classes = Classes {
-        headings: Items::new(alloc),
-    };
+) -> Result<Option<[Result<Statement, ReadFault>; 2]>, Fail> {
+    let classes = classes(alloc)?;
     let Ok(lines) = tokens(alloc, script.as_bytes()) else {
         return Ok(None);
     };
     match lines.lines.as_slice() {
         [] => Ok(None),
-        [line, ..] => Ok(Some(statement(alloc, line, &classes))),
+        [line, ..] => {
+            let listed = statement(alloc, line, &classes);
+            let lookup = Lookup::of(alloc, classes)?;
+            Ok(Some([listed, statement_among(alloc, line, 0, &lookup)]))
+        }
     }
 }
 
-/// The place of a script's first line where it stops being a statement, `0 0` where it is one.
-fn stop(alloc: Global, script: &str) -> Result<(u32, u32), Fail> {
-    match first_statement(alloc, script)?.ok_or("a line")? {
+/// The place where a line stops being a statement, `0 0` where it is one.
+fn stop(answer: Result<Statement, ReadFault>) -> Result<(u32, u32), Fail> {
+    match answer {
         Ok(_) => Ok((0, 0)),
         Err(ReadFault::Refused { refusal }) => Ok((refusal.line, refusal.column)),
         Err(ReadFault::NoMemory) => Err("memory")?,
@@ -469,10 +472,36 @@ fn stop(alloc: Global, script: &str) -> Result<(u32, u32), Fail> {
 
 #[test]
 fn lines_of_scripts_are_statements(rt: HostRuntime) -> Result<(), Fail> {
-    assert_eq!(rt; stop(rt.alloc(), "A←1+2")?, (0, 0));
-    assert_eq!(rt; stop(rt.alloc(), "A←(1+2")?, (1, 7));
-    assert_eq!(rt; stop(rt.alloc(), "1++")?, (1, 4));
-    assert_eq!(rt; stop(rt.alloc(), "A]")?, (1, 2));
-    assert_eq!(rt; stop(rt.alloc(), "⌽[1 2]3")?, (1, 3));
+    let alloc = rt.alloc();
+    let places = [
+        ("A←1+2", (0, 0)),
+        ("A←(1+2", (1, 7)),
+        ("1++", (1, 4)),
+        ("A]", (1, 2)),
+        ("⌽[1 2]3", (1, 3)),
+        ("1 D M N", (0, 0)),
+        ("D 1", (1, 1)),
+    ];
+    for (text, place) in places.iter() {
+        let [listed, prepared] = first_statements(alloc, text)?.ok_or("a line")?;
+        assert_eq!(rt; stop(listed)?, *place, "{text}");
+        assert_eq!(rt; stop(prepared)?, *place, "{text}");
+    }
+    Ok(())
+}
+
+#[test]
+fn the_first_heading_of_a_name_counts(rt: HostRuntime) -> Result<(), Fail> {
+    let alloc = rt.alloc();
+    let mut classes = classes(alloc)?;
+    classes.headings.push(heading(alloc, "M", 2)?)?;
+    let lookup = Lookup::of(alloc, classes)?;
+    for (name, arguments) in [("N", Some(0)), ("M", Some(1)), ("D", Some(2)), ("A", None)].iter() {
+        assert_eq!(rt;
+            lookup.arguments(&Name::of(alloc, name)?),
+            *arguments,
+            "{name}"
+        );
+    }
     Ok(())
 }
