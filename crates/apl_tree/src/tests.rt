@@ -442,28 +442,39 @@ fn long_lines_are_read(rt: HostRuntime) -> Result<(), Fail> {
     Ok(())
 }
 
-/// What is said of the first line of a script, where it has one: over listed classes, and over prepared ones.
-fn first_statements(
+/// What is said of the first line of a script, where it has one.
+fn first_statement(
     alloc: Global,
     script: &str,
-) -> Result<Option<[Result<Statement, ReadFault>; 2]>, Fail> {
+) -> Result<Option<Result<Statement, ReadFault>>, Fail> {
     let classes = classes(alloc)?;
     let Ok(lines) = tokens(alloc, script.as_bytes()) else {
         return Ok(None);
     };
     match lines.lines.as_slice() {
         [] => Ok(None),
-        [line, ..] => {
-            let listed = statement(alloc, line, &classes);
-            let lookup = Lookup::of(alloc, classes)?;
-            Ok(Some([listed, statement_among(alloc, line, 0, &lookup)]))
-        }
+        [line, ..] => Ok(Some(statement(alloc, line, &classes))),
+    }
+}
+
+/// The same over prepared classes of names.
+fn first_statement_among(
+    alloc: Global,
+    script: &str,
+) -> Result<Option<Result<Statement, ReadFault>>, Fail> {
+    let lookup = Lookup::of(alloc, classes(alloc)?)?;
+    let Ok(lines) = tokens(alloc, script.as_bytes()) else {
+        return Ok(None);
+    };
+    match lines.lines.as_slice() {
+        [] => Ok(None),
+        [line, ..] => Ok(Some(statement_among(alloc, line, 0, &lookup))),
     }
 }
 
 /// The place where a line stops being a statement, `0 0` where it is one.
-fn stop(answer: Result<Statement, ReadFault>) -> Result<(u32, u32), Fail> {
-    match answer {
+fn stop(answer: Option<Result<Statement, ReadFault>>) -> Result<(u32, u32), Fail> {
+    match answer.ok_or("a line")? {
         Ok(_) => Ok((0, 0)),
         Err(ReadFault::Refused { refusal }) => Ok((refusal.line, refusal.column)),
         Err(ReadFault::NoMemory) => Err("memory")?,
@@ -472,7 +483,6 @@ fn stop(answer: Result<Statement, ReadFault>) -> Result<(u32, u32), Fail> {
 
 #[test]
 fn lines_of_scripts_are_statements(rt: HostRuntime) -> Result<(), Fail> {
-    let alloc = rt.alloc();
     let places = [
         ("A←1+2", (0, 0)),
         ("A←(1+2", (1, 7)),
@@ -483,25 +493,30 @@ fn lines_of_scripts_are_statements(rt: HostRuntime) -> Result<(), Fail> {
         ("D 1", (1, 1)),
     ];
     for (text, place) in places.iter() {
-        let [listed, prepared] = first_statements(alloc, text)?.ok_or("a line")?;
-        assert_eq!(rt; stop(listed)?, *place, "{text}");
-        assert_eq!(rt; stop(prepared)?, *place, "{text}");
+        assert_eq!(rt; stop(first_statement(rt.alloc(), text)?)?, *place, "{text}");
+        assert_eq!(rt;
+            stop(first_statement_among(rt.alloc(), text)?)?,
+            *place,
+            "{text}"
+        );
     }
     Ok(())
+}
+
+/// The classes, with a second heading of `M`.
+fn doubled(alloc: Global) -> Result<Classes, Fail> {
+    let Classes { mut headings } = classes(alloc)?;
+    headings.push(heading(alloc, "M", 2)?)?;
+    Ok(Classes { headings })
 }
 
 #[test]
 fn the_first_heading_of_a_name_counts(rt: HostRuntime) -> Result<(), Fail> {
     let alloc = rt.alloc();
-    let mut classes = classes(alloc)?;
-    classes.headings.push(heading(alloc, "M", 2)?)?;
-    let lookup = Lookup::of(alloc, classes)?;
+    let lookup = Lookup::of(alloc, doubled(alloc)?)?;
     for (name, arguments) in [("N", Some(0)), ("M", Some(1)), ("D", Some(2)), ("A", None)].iter() {
-        assert_eq!(rt;
-            lookup.arguments(&Name::of(alloc, name)?),
-            *arguments,
-            "{name}"
-        );
+        let name = Name::of(alloc, name)?;
+        assert_eq!(rt; lookup.arguments(&name), *arguments);
     }
     Ok(())
 }
