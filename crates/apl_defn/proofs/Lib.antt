@@ -1,1 +1,3 @@
 pub mod BodyLines
+pub mod OutsideLines
+pub mod Stopped

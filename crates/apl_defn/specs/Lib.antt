@@ -1,4 +1,4 @@
 pub mod Reading
 pub mod Earliest
 pub mod NameRules
-pub mod Labels
+pub mod LineStart
