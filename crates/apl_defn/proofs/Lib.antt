@@ -1,0 +1,3 @@
+pub mod BodyLines
+pub mod OutsideLines
+pub mod Stopped
