@@ -1,2 +1,4 @@
 pub mod Continued
+pub mod HeaderReads
+pub mod PlainMarks
 pub mod Readers

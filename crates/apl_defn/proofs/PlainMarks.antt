@@ -1,0 +1,54 @@
+-- Marks that say no place spell tokens by their words alone.
+use Rattle.std.proofs.Common.{◌≡◌, ℕ, List, [], ◌∷◌, ◌++◌}
+use Rattle.apl_model.proofs.Unique.{words_of, token_words}
+use Rattle.apl_model.specs.Spelling.{Mark, at, some, Spell, name_marks, local_marks, argument_marks, result_marks}
+use Rattle.apl_model.specs.declared.tokens.Token.{Token}
+use Rattle.apl_model.specs.declared.tokens.Word.{Word}
+use Rattle.std.specs.Prelude.{Option, None, Some}
+
+-- no mark says a place
+abbrev pub ArePlain : List Mark → Type 0
+ArePlain [] = Unit {0}
+ArePlain (at p w ∷ ms) = ⊥
+ArePlain (some w ∷ ms) = ArePlain ms
+
+pub plain-append : (ms ns : List Mark) → ArePlain ms → ArePlain ns → ArePlain (ms ++ ns)
+plain-append [] ns h i = i
+plain-append (at p w ∷ ms) ns h i = absurd h
+plain-append (some w ∷ ms) ns h i = plain-append ms ns h i
+
+pub plain_names : (ns : List (List ℕ)) → ArePlain (name_marks ns)
+plain_names [] = tt
+plain_names (n ∷ ns) = plain_names ns
+
+pub plain_locals : (ns : List (List ℕ)) → ArePlain (local_marks ns)
+plain_locals [] = tt
+plain_locals (n ∷ ns) = plain_locals ns
+
+pub plain_argument : (x : Option (List ℕ)) → ArePlain (argument_marks x)
+plain_argument None = tt
+plain_argument (Some x) = tt
+
+pub plain_result : (z : Option (List ℕ)) → ArePlain (result_marks z)
+plain_result None = tt
+plain_result (Some z) = tt
+
+nil_clash : {A : Type 0} {x : A} {xs : List A} → [] ≡ x ∷ xs → ⊥
+nil_clash e = cc
+
+cons_clash : {A : Type 0} {x : A} {xs : List A} → x ∷ xs ≡ [] → ⊥
+cons_clash e = cc
+
+head_is : {v w : Word} {vs ws : List Word} → v ∷ vs ≡ w ∷ ws → v ≡ w
+head_is e = cc
+
+tail_is : {v w : Word} {vs ws : List Word} → v ∷ vs ≡ w ∷ ws → vs ≡ ws
+tail_is e = cc
+
+-- marks without places spell the tokens that have their words
+pub spells_by_words : (n : ℕ) (ms : List Mark) (ts : List Token) → ArePlain ms → words_of ms ≡ token_words ts → Spell n ms ts
+spells_by_words n [] [] h e = tt
+spells_by_words n [] (t ∷ ts) h e = absurd (nil_clash e)
+spells_by_words n (m ∷ ms) [] h e = absurd (cons_clash e)
+spells_by_words n (at p w ∷ ms) (t ∷ ts) h e = absurd h
+spells_by_words n (some w ∷ ms) (t ∷ ts) h e = (head_is e, spells_by_words n ms ts h (tail_is e))
