@@ -1,22 +1,26 @@
 -- The reader of first lines is at an end exactly after headers.
-use Rattle.std.proofs.Common.{◌≡◌, ℕ, ◌==◌, Bool, true, false, cond, IsTrue, List, [], ◌∷◌, ◌++◌, Option, None, Some, refl, sym, ap, subst, ◌∙◌, append_assoc, append-nil, codes}
+use Rattle.std.proofs.Common.{◌≡◌, ℕ, ◌==◌, Bool, true, false, cond, IsTrue, List, [], ◌∷◌, ◌++◌, ◌<◌, ◌≤◌, length, take, get_or, Option, None, Some, refl, sym, ap, subst, ◌∙◌, append_assoc, append-nil, codes}
 use Rattle.std.proofs.lemmas.Bool.{eqb-true}
 use Rattle.std.specs.Option.{option_and_then}
 use Rattle.apl_model.proofs.Unique.{word_of, words_of, token_words, same_words}
 use Rattle.apl_model.specs.Characters.{code, is_name}
 use Rattle.apl_model.specs.Grammar.{IsHeader, IsOptionalName, AreNames}
-use Rattle.apl_model.specs.Refusal.{first_line, IsLawful}
+use Rattle.apl_model.specs.Refusal.{first_line, IsLawful, StopsAt, past_last}
+use Rattle.apl_model.specs.Script.{is_glyph_token, opens, IsHeadOf}
 use Rattle.apl_model.specs.Spelling.{Mark, some, glyph, result_marks, argument_marks, local_marks, header_spelling, Spell}
+use Rattle.apl_model.specs.Tokens.{IsRead}
 use Rattle.apl_model.specs.declared.scripts.Header.{Header}
 use Rattle.apl_model.specs.declared.tokens.Heading.{Heading}
+use Rattle.apl_model.specs.declared.tokens.Line.{Line}
 use Rattle.apl_model.specs.declared.tokens.Token.{Token}
 use Rattle.apl_model.specs.declared.tokens.Word.{Word}
 use Rattle.apl_model.specs.declared.tokens.Word.TheVariants as word
 use Rattle.apl_tree.proofs.SortFacts.{IsWord, AreWords}
 use Rattle.apl_tree.proofs.SplitTokens.{IsNumbers}
 use Rattle.apl_defn.proofs.PlainMarks.{ArePlain, plain-append, plain_locals, plain_argument, plain_result, spells_by_words}
-use Rattle.apl_defn.proofs.Readers.{run, run-none, Ends, Completes, Reads}
+use Rattle.apl_defn.proofs.Readers.{run, run-none, behind_first, Ends, Completes, Reads, stopped_before, stopped_behind, read_all}
 use Rattle.apl_defn.specs.HeaderSteps.{named, with_argument, with_local, as_result, takes_name, takes_arrow, takes_semicolon, takes, finished}
+use Rattle.apl_defn.specs.Reading.{IsReadLine}
 use Rattle.apl_defn.specs.declared.headers.HeaderSoFar.{HeaderSoFar}
 use Rattle.apl_defn.specs.declared.headers.HeaderSoFar.TheVariants as so_far
 
@@ -187,16 +191,16 @@ runs_on x (t ∷ ts) y h s e = by (takes x t.word) refl e (λ z i f. runs_on z t
         let b = g z a.lawful e in
         record { shows = sym (append_assoc (shown x) (t.word ∷ []) (token_words ts)) ∙ ap (λ ws. ws ++ token_words ts) a.shows ∙ b.shows; lawful = b.lawful }
 
-record IsRead (h : Header) (ws : List Word) : Type 0 where
+record IsHeaderOf (h : Header) (ws : List Word) : Type 0 where
   lawful : IsHeader h
   same : words_of (marks h) ≡ ws
 
-header_is : (y : HeaderSoFar) (h : Header) (ws : List Word) → IsSoFar y → finished y ≡ Some h → ws ≡ shown y → IsRead h ws
+header_is : (y : HeaderSoFar) (h : Header) (ws : List Word) → IsSoFar y → finished y ≡ Some h → ws ≡ shown y → IsHeaderOf h ws
 header_is so_far.Opened h ws s f e = none_is f
-header_is (so_far.Named k) h ws s f e = some_is (λ v. IsRead v ws) k h (record { lawful = s.0; same = sym e }) f
+header_is (so_far.Named k) h ws s f e = some_is (λ v. IsHeaderOf v ws) k h (record { lawful = s.0; same = sym e }) f
 header_is (so_far.Assigned z) h ws s f e = none_is f
 header_is (so_far.Semicolon k) h ws s f e = none_is f
-header_is (so_far.Local k) h ws s f e = some_is (λ v. IsRead v ws) k h (record { lawful = s; same = sym e }) f
+header_is (so_far.Local k) h ws s f e = some_is (λ v. IsHeaderOf v ws) k h (record { lawful = s; same = sym e }) f
 
 -- ---- Complete ----
 
@@ -275,3 +279,55 @@ header_reads hs n first e = record {
       (ends_header l.0.f l.0.result l.0.left l.0.right l.0.locals l.1);
   completes = completes;
 }
+
+-- ---- First lines ----
+
+-- a line that opens a definition: ∇ and the other tokens
+pub record IsOpened (ts : List Token) : Type 0 where
+  pub first : Token
+  pub rest : List Token
+  pub split : ts ≡ first ∷ rest
+  pub glyph_is : glyph "∇" ≡ first.word
+
+nabla : (t : Token) (w : Word) → t.word ≡ w → is_glyph_token "∇" t ≡ true → glyph "∇" ≡ w
+nabla t w e g = by w (subst (λ v. (let b : Bool = elim v [ word.Glyph c ↦ c == code "∇" | _ ↦ false ] in b ≡ true)) e g)
+  where
+    by : (w : Word) → (let b : Bool = elim w [ word.Glyph c ↦ c == code "∇" | _ ↦ false ] in b ≡ true) → glyph "∇" ≡ w
+    by (word.Numbers zs) h = absurd (false_true h)
+    by (word.Chars zs) h = absurd (false_true h)
+    by (word.Name n) h = absurd (false_true h)
+    by (word.Glyph c) h = ap word.Glyph (sym (eqb-true c (code "∇") h))
+
+pub opened : (ts : List Token) → opens ts ≡ true → IsOpened ts
+opened [] e = absurd (false_true e)
+opened (t ∷ []) e = absurd (false_true e)
+opened (t ∷ u ∷ ts) e = record { first = t; rest = u ∷ ts; split = refl; glyph_is = nabla t t.word refl e }
+
+-- the header that all tokens of the line are
+pub head_of_all : (l : Line) (ts : List Token) (i : ℕ) (y : HeaderSoFar) (h : Header) → AreWords l.tokens → opens l.tokens ≡ true → ts ≡ l.tokens →
+    length (behind_first ts) ≤ i → run takes (Some so_far.Opened) (token_words (take i (behind_first ts))) ≡ Some y → finished y ≡ Some h → IsHeadOf l h
+head_of_all l ts i y h w o e len runs ends =
+    let s = opened l.tokens o in
+    let f = e ∙ s.split in
+    let r = read_sound l.number s.rest y h (subst AreWords s.split w).1 (read_all takes so_far.Opened s.first ts s.rest i y f len runs) ends in
+    record { header = r.0; spells = subst (Spell l.number (header_spelling h)) (sym s.split) (s.glyph_is, r.1) }
+
+-- where the reader stops at a token
+pub header_stops_before : (l : Line) (ts : List Token) (i : ℕ) (t : Token) (x : HeaderSoFar) → IsReadLine l → AreWords l.tokens → opens l.tokens ≡ true → ts ≡ l.tokens →
+    i < length (behind_first ts) → t ≡ get_or (behind_first ts) i t → run takes (Some so_far.Opened) (token_words (take i (behind_first ts))) ≡ Some x →
+    takes x t.word ≡ None → StopsAt first_line [] l.number l.tokens t.from
+header_stops_before l ts i t x r w o e len g runs stops =
+    let s = opened l.tokens o in
+    subst (λ us. StopsAt first_line [] l.number us t.from) e
+    (stopped_before takes finished so_far.Opened first_line [] l.number s.first (header_reads [] l.number s.first s.glyph_is) l.text ts s.rest i t x (e ∙ s.split)
+    (subst (IsRead l.text) (sym e) r.tokens) (subst AreWords (sym e) w) len g runs stops)
+
+-- where it stops behind the last one
+pub header_stops_behind : (l : Line) (ts : List Token) (i : ℕ) (x : HeaderSoFar) → IsReadLine l → AreWords l.tokens → opens l.tokens ≡ true → ts ≡ l.tokens →
+    length (behind_first ts) ≤ i → run takes (Some so_far.Opened) (token_words (take i (behind_first ts))) ≡ Some x →
+    finished x ≡ None → StopsAt first_line [] l.number l.tokens (past_last ts)
+header_stops_behind l ts i x r w o e len runs ends_not =
+    let s = opened l.tokens o in
+    subst (λ us. StopsAt first_line [] l.number us (past_last ts)) e
+    (stopped_behind takes finished so_far.Opened first_line [] l.number s.first (header_reads [] l.number s.first s.glyph_is) l.text ts s.rest i x (e ∙ s.split)
+    (subst (IsRead l.text) (sym e) r.tokens) (subst AreWords (sym e) w) len runs ends_not)

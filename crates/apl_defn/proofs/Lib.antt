@@ -1,4 +1,5 @@
 pub mod Continued
 pub mod HeaderReads
+pub mod LineWords
 pub mod PlainMarks
 pub mod Readers

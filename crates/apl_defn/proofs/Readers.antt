@@ -1,7 +1,7 @@
 -- A reader goes over the words of a line one by one. Where it stops is the place at which the line stops being the
 -- beginning of a lawful one.
-use Rattle.std.proofs.Common.{◌≡◌, ℕ, ◌+◌, ◌<◌, List, [], ◌∷◌, ◌++◌, length, take, drop, get_or, Option, None, Some, ℤ, refl, sym, ap, subst, ◌∙◌, append_assoc, append-nil}
-use Rattle.std.proofs.lemmas.List.{drop_more, take_more, take-append-drop}
+use Rattle.std.proofs.Common.{◌≡◌, ℕ, ◌+◌, ◌-◌, ◌<◌, ◌≤◌, List, [], ◌∷◌, ◌++◌, length, take, drop, get_or, Option, None, Some, ℤ, refl, sym, ap, subst, ◌∙◌, append-nil, arith}
+use Rattle.std.proofs.lemmas.List.{drop_more, take_more, take_all, take-append-drop}
 use Rattle.std.specs.Option.{option_and_then}
 use Rattle.apl_model.proofs.Unique.{token_words}
 use Rattle.apl_model.specs.Refusal.{LineKind, IsLawful, IsBeginning, StopsAt, at_token, past_the_last, past_last}
@@ -49,6 +49,13 @@ run-more takes x y ts i t l e r =
 
 pub cut_at : (ts : List Token) (i : ℕ) (t : Token) → i < length ts → t ≡ get_or ts i t → ts ≡ take i ts ++ (t ∷ drop (i + 1) ts)
 cut_at ts i t l e = sym (take-append-drop i ts) ∙ ap (λ us. take i ts ++ us) (drop_more ts i t l ∙ ap (λ (u : Token). u ∷ drop (i + 1) ts) (sym e))
+
+-- the tokens behind the first one, as a slice
+abbrev pub behind_first : List Token → List Token
+behind_first ts = take (length ts - 1) (drop 1 ts)
+
+rest_is : (first : Token) (ts us : List Token) → ts ≡ first ∷ us → behind_first ts ≡ us
+rest_is first ts us e = ap behind_first e ∙ take_all (length (first ∷ us) - 1) us (omega arith)
 
 -- ---- Readers of a kind of lines ----
 
@@ -147,3 +154,32 @@ module _ {S R : Type 0} (takes : S → Word → Option S) (finished : S → Opti
       where
         unended : (x y : S) (a : R) → Some x ≡ Some y → finished y ≡ Some a → finished x ≡ None → ⊥
         unended x y a e f g = let h : x ≡ y = cc in some_clash (sym g ∙ ap finished h ∙ f)
+
+    -- ---- Places of a line's tokens ----
+
+    -- the reader stops at the token at this place behind the first one
+    pub stopped_before : (line : List ℕ) (ts us : List Token) (i : ℕ) (t : Token) (x : S) → ts ≡ first ∷ us → IsRead line ts → AreWords ts →
+        i < length (behind_first ts) → t ≡ get_or (behind_first ts) i t → run takes (Some start) (token_words (take i (behind_first ts))) ≡ Some x →
+        takes x t.word ≡ None → StopsAt kind hs n ts t.from
+    stopped_before line ts us i t x e r w l g runs stops =
+        let f = rest_is first ts us e in
+        let c = cut_at (behind_first ts) i t l g in
+        subst (λ vs. StopsAt kind hs n vs t.from) (sym e)
+        (stops_at line us t.from (subst (IsRead line) e r) (subst AreWords e w).1
+        (before_token (take i (behind_first ts)) t (drop (i + 1) (behind_first ts)) x (sym f ∙ c) runs stops refl))
+
+    -- the reader stops behind the last token
+    pub stopped_behind : (line : List ℕ) (ts us : List Token) (i : ℕ) (x : S) → ts ≡ first ∷ us → IsRead line ts → AreWords ts →
+        length (behind_first ts) ≤ i → run takes (Some start) (token_words (take i (behind_first ts))) ≡ Some x →
+        finished x ≡ None → StopsAt kind hs n ts (past_last ts)
+    stopped_behind line ts us i x e r w l runs ends_not =
+        let f = rest_is first ts us e in
+        let g : run takes (Some start) (token_words us) ≡ Some x = ap (λ vs. run takes (Some start) (token_words vs)) (sym f ∙ sym (take_all i (behind_first ts) l)) ∙ runs in
+        subst (λ vs. StopsAt kind hs n vs (past_last vs)) (sym e)
+        (stops_at line us (past_last (first ∷ us)) (subst (IsRead line) e r) (subst AreWords e w).1 (behind_all x g ends_not refl))
+
+-- the reader goes over all tokens
+pub read_all : {S : Type 0} (takes : S → Word → Option S) (start : S) (first : Token) (ts us : List Token) (i : ℕ) (x : S) → ts ≡ first ∷ us → length (behind_first ts) ≤ i →
+    run takes (Some start) (token_words (take i (behind_first ts))) ≡ Some x → run takes (Some start) (token_words us) ≡ Some x
+read_all takes start first ts us i x e l runs =
+    ap (λ vs. run takes (Some start) (token_words vs)) (sym (rest_is first ts us e) ∙ sym (take_all i (behind_first ts) l)) ∙ runs

@@ -60,14 +60,13 @@ impl HeaderSoFar {
     {
         match self {
             HeaderSoFar::Named {
-                header:
-                    Header {
-                        f,
-                        result: None,
-                        left: None,
-                        right: None,
-                        ..
-                    },
+                header: Header {
+                    f,
+                    result: None,
+                    left: None,
+                    right: None,
+                    ..
+                },
             } => Some(HeaderSoFar::Assigned { result: f }),
             _ => None,
         }
