@@ -17,8 +17,9 @@ use Rattle.apl_model.specs.declared.tokens.Word.{Word}
 use Rattle.apl_model.specs.declared.tokens.Word.TheVariants as word
 use Rattle.apl_tree.proofs.SortFacts.{IsWord, AreWords}
 use Rattle.apl_tree.proofs.SplitTokens.{IsNumbers}
+use Rattle.apl_defn.proofs.LineWords.{glyph_is}
 use Rattle.apl_defn.proofs.PlainMarks.{ArePlain, plain-append, plain_locals, plain_argument, plain_result, spells_by_words}
-use Rattle.apl_defn.proofs.Readers.{run, run-none, behind_first, Ends, Completes, Reads, stopped_before, stopped_behind, read_all}
+use Rattle.apl_defn.proofs.Readers.{run, behind_first, read_all, GoesOn, runs_on, some_is, none_is, Ends, Completes, by_nothing, by_name, Reads}
 use Rattle.apl_defn.specs.HeaderSteps.{named, with_argument, with_local, as_result, takes_name, takes_arrow, takes_semicolon, takes, finished}
 use Rattle.apl_defn.specs.Reading.{IsReadLine}
 use Rattle.apl_defn.specs.declared.headers.HeaderSoFar.{HeaderSoFar}
@@ -52,16 +53,8 @@ IsSoFar (so_far.Assigned z) = IsTrue (is_name z)
 IsSoFar (so_far.Semicolon h) = IsHeader h
 IsSoFar (so_far.Local h) = IsHeader h
 
--- from x the reader goes on to y by this word
-record GoesOn (x : HeaderSoFar) (w : Word) (y : HeaderSoFar) : Type 0 where
-  shows : shown x ++ (w ∷ []) ≡ shown y
-  lawful : IsSoFar y
-
-some_is : {A : Type 0} (P : A → Type 0) (a b : A) → P a → Some a ≡ Some b → P b
-some_is P a b h e = let f : a ≡ b = cc in subst P f h
-
-none_is : {A B : Type 0} {b : B} → None ≡ Some b → A
-none_is e = cc
+abbrev Goes : HeaderSoFar → Word → HeaderSoFar → Type 0
+Goes x w y = GoesOn shown IsSoFar x (w ∷ []) y
 
 false_true : false ≡ true → ⊥
 false_true e = cc
@@ -73,28 +66,28 @@ is_named f z h i = record { f = h; result = i; left = tt; right = tt; locals = t
 
 by_argument : (f : List ℕ) (z x y : Option (List ℕ)) (n : List ℕ) (next : HeaderSoFar) → IsTrue (is_name n) → IsHeader (record { f = f; result = z; left = x; right = y; locals = [] }) →
     with_argument (record { f = f; result = z; left = x; right = y; locals = [] }) n ≡ Some next →
-    GoesOn (so_far.Named (record { f = f; result = z; left = x; right = y; locals = [] })) (word.Name n) next
+    Goes (so_far.Named (record { f = f; result = z; left = x; right = y; locals = [] })) (word.Name n) next
 by_argument f None None None n next i h e =
-    some_is (GoesOn (so_far.Named (record { f = f; result = None; left = None; right = None; locals = [] })) (word.Name n))
+    some_is (Goes (so_far.Named (record { f = f; result = None; left = None; right = None; locals = [] })) (word.Name n))
     (so_far.Named (record { f = f; result = None; left = None; right = Some n; locals = [] })) next
     (record { shows = refl; lawful = (record { f = h.f; result = tt; left = tt; right = i; locals = tt; both = λ g. refl }, refl) }) e
 by_argument f (Some z) None None n next i h e =
-    some_is (GoesOn (so_far.Named (record { f = f; result = Some z; left = None; right = None; locals = [] })) (word.Name n))
+    some_is (Goes (so_far.Named (record { f = f; result = Some z; left = None; right = None; locals = [] })) (word.Name n))
     (so_far.Named (record { f = f; result = Some z; left = None; right = Some n; locals = [] })) next
     (record { shows = refl; lawful = (record { f = h.f; result = h.result; left = tt; right = i; locals = tt; both = λ g. refl }, refl) }) e
 by_argument f None None (Some y) n next i h e =
-    some_is (GoesOn (so_far.Named (record { f = f; result = None; left = None; right = Some y; locals = [] })) (word.Name n))
+    some_is (Goes (so_far.Named (record { f = f; result = None; left = None; right = Some y; locals = [] })) (word.Name n))
     (so_far.Named (record { f = y; result = None; left = Some f; right = Some n; locals = [] })) next
     (record { shows = refl; lawful = (record { f = h.right; result = tt; left = h.f; right = i; locals = tt; both = λ g. refl }, refl) }) e
 by_argument f (Some z) None (Some y) n next i h e =
-    some_is (GoesOn (so_far.Named (record { f = f; result = Some z; left = None; right = Some y; locals = [] })) (word.Name n))
+    some_is (Goes (so_far.Named (record { f = f; result = Some z; left = None; right = Some y; locals = [] })) (word.Name n))
     (so_far.Named (record { f = y; result = Some z; left = Some f; right = Some n; locals = [] })) next
     (record { shows = refl; lawful = (record { f = h.right; result = h.result; left = h.f; right = i; locals = tt; both = λ g. refl }, refl) }) e
 by_argument f z (Some x) y n next i h e = none_is e
 
 argument_goes : (f : List ℕ) (z x y : Option (List ℕ)) (ls : List (List ℕ)) (n : List ℕ) (next : HeaderSoFar) → IsTrue (is_name n) → IsHeader (record { f = f; result = z; left = x; right = y; locals = ls }) →
     ls ≡ [] → with_argument (record { f = f; result = z; left = x; right = y; locals = ls }) n ≡ Some next →
-    GoesOn (so_far.Named (record { f = f; result = z; left = x; right = y; locals = ls })) (word.Name n) next
+    Goes (so_far.Named (record { f = f; result = z; left = x; right = y; locals = ls })) (word.Name n) next
 argument_goes f z x y [] n next i h e g = by_argument f z x y n next i h g
 argument_goes f z x y (l ∷ ls) n next i h e g = absurd (cons_clash e)
   where
@@ -103,9 +96,9 @@ argument_goes f z x y (l ∷ ls) n next i h e g = absurd (cons_clash e)
 
 result_goes : (f : List ℕ) (z x y : Option (List ℕ)) (ls : List (List ℕ)) (next : HeaderSoFar) → IsHeader (record { f = f; result = z; left = x; right = y; locals = ls }) →
     ls ≡ [] → as_result (record { f = f; result = z; left = x; right = y; locals = ls }) ≡ Some next →
-    GoesOn (so_far.Named (record { f = f; result = z; left = x; right = y; locals = ls })) (glyph "←") next
+    Goes (so_far.Named (record { f = f; result = z; left = x; right = y; locals = ls })) (glyph "←") next
 result_goes f None None None [] next h e g =
-    some_is (GoesOn (so_far.Named (record { f = f; result = None; left = None; right = None; locals = [] })) (glyph "←"))
+    some_is (Goes (so_far.Named (record { f = f; result = None; left = None; right = None; locals = [] })) (glyph "←"))
     (so_far.Assigned f) next (record { shows = refl; lawful = h.f }) g
 result_goes f None None None (l ∷ ls) next h e g = absurd (cons_clash e)
   where
@@ -134,62 +127,43 @@ names_more (k ∷ ks) l h i = (h.0, names_more ks l h.1 i)
 local_lawful : (h : Header) (l : List ℕ) → IsHeader h → IsTrue (is_name l) → IsHeader (with_local h l)
 local_lawful h l i j = record { f = i.f; result = i.result; left = i.left; right = i.right; locals = names_more h.locals l i.locals j; both = i.both }
 
-name_goes : (x : HeaderSoFar) (n : List ℕ) (y : HeaderSoFar) → IsTrue (is_name n) → IsSoFar x → takes_name x n ≡ Some y → GoesOn x (word.Name n) y
+name_goes : (x : HeaderSoFar) (n : List ℕ) (y : HeaderSoFar) → IsTrue (is_name n) → IsSoFar x → takes_name x n ≡ Some y → Goes x (word.Name n) y
 name_goes so_far.Opened n y i s e =
-    some_is (GoesOn so_far.Opened (word.Name n)) (named None n) y (record { shows = refl; lawful = (is_named n None i tt, refl) }) e
+    some_is (Goes so_far.Opened (word.Name n)) (named None n) y (record { shows = refl; lawful = (is_named n None i tt, refl) }) e
 name_goes (so_far.Named h) n y i s e = argument_goes h.f h.result h.left h.right h.locals n y i s.0 s.1 e
 name_goes (so_far.Assigned z) n y i s e =
-    some_is (GoesOn (so_far.Assigned z) (word.Name n)) (named (Some z) n) y (record { shows = refl; lawful = (is_named n (Some z) i s, refl) }) e
+    some_is (Goes (so_far.Assigned z) (word.Name n)) (named (Some z) n) y (record { shows = refl; lawful = (is_named n (Some z) i s, refl) }) e
 name_goes (so_far.Semicolon h) n y i s e =
-    some_is (GoesOn (so_far.Semicolon h) (word.Name n)) (so_far.Local (with_local h n)) y (record { shows = local_shown h n; lawful = local_lawful h n s i }) e
+    some_is (Goes (so_far.Semicolon h) (word.Name n)) (so_far.Local (with_local h n)) y (record { shows = local_shown h n; lawful = local_lawful h n s i }) e
 name_goes (so_far.Local h) n y i s e = none_is e
 
-arrow_goes : (x y : HeaderSoFar) → IsSoFar x → takes_arrow x ≡ Some y → GoesOn x (glyph "←") y
+arrow_goes : (x y : HeaderSoFar) → IsSoFar x → takes_arrow x ≡ Some y → Goes x (glyph "←") y
 arrow_goes so_far.Opened y s e = none_is e
 arrow_goes (so_far.Named h) y s e = result_goes h.f h.result h.left h.right h.locals y s.0 s.1 e
 arrow_goes (so_far.Assigned z) y s e = none_is e
 arrow_goes (so_far.Semicolon h) y s e = none_is e
 arrow_goes (so_far.Local h) y s e = none_is e
 
-semicolon_goes : (x y : HeaderSoFar) → IsSoFar x → takes_semicolon x ≡ Some y → GoesOn x (glyph ";") y
+semicolon_goes : (x y : HeaderSoFar) → IsSoFar x → takes_semicolon x ≡ Some y → Goes x (glyph ";") y
 semicolon_goes so_far.Opened y s e = none_is e
-semicolon_goes (so_far.Named h) y s e = some_is (GoesOn (so_far.Named h) (glyph ";")) (so_far.Semicolon h) y (record { shows = refl; lawful = s.0 }) e
+semicolon_goes (so_far.Named h) y s e = some_is (Goes (so_far.Named h) (glyph ";")) (so_far.Semicolon h) y (record { shows = refl; lawful = s.0 }) e
 semicolon_goes (so_far.Assigned z) y s e = none_is e
 semicolon_goes (so_far.Semicolon h) y s e = none_is e
-semicolon_goes (so_far.Local h) y s e = some_is (GoesOn (so_far.Local h) (glyph ";")) (so_far.Semicolon h) y (record { shows = refl; lawful = s }) e
+semicolon_goes (so_far.Local h) y s e = some_is (Goes (so_far.Local h) (glyph ";")) (so_far.Semicolon h) y (record { shows = refl; lawful = s }) e
 
 glyph_goes : (a b : Bool) (c : ℕ) (x y : HeaderSoFar) → (c == code "←") ≡ a → (c == code ";") ≡ b → IsSoFar x →
-    (let o : Option HeaderSoFar = cond a (takes_arrow x) (cond b (takes_semicolon x) None) in o ≡ Some y) → GoesOn x (word.Glyph c) y
-glyph_goes true b c x y f g s e = subst (λ d. GoesOn x (word.Glyph d) y) (sym (eqb-true c (code "←") f)) (arrow_goes x y s e)
-glyph_goes false true c x y f g s e = subst (λ d. GoesOn x (word.Glyph d) y) (sym (eqb-true c (code ";") g)) (semicolon_goes x y s e)
+    (let o : Option HeaderSoFar = cond a (takes_arrow x) (cond b (takes_semicolon x) None) in o ≡ Some y) → Goes x (word.Glyph c) y
+glyph_goes true b c x y f g s e = subst (λ d. Goes x (word.Glyph d) y) (sym (eqb-true c (code "←") f)) (arrow_goes x y s e)
+glyph_goes false true c x y f g s e = subst (λ d. Goes x (word.Glyph d) y) (sym (eqb-true c (code ";") g)) (semicolon_goes x y s e)
 glyph_goes false false c x y f g s e = none_is e
 
-goes_on : (x : HeaderSoFar) (w : Word) (y : HeaderSoFar) → IsWord w → IsSoFar x → takes x w ≡ Some y → GoesOn x w y
+goes_on : (x : HeaderSoFar) (w : Word) (y : HeaderSoFar) → IsWord w → IsSoFar x → takes x w ≡ Some y → Goes x w y
 goes_on x (word.Numbers zs) y i s e = none_is e
 goes_on x (word.Chars zs) y i s e = none_is e
 goes_on x (word.Name n) y i s e = name_goes x n y i s e
 goes_on x (word.Glyph c) y i s e = glyph_goes (c == code "←") (c == code ";") c x y refl refl s e
 
 -- ---- Sound ----
-
-record RunsOn (x : HeaderSoFar) (ws : List Word) (y : HeaderSoFar) : Type 0 where
-  shows : shown x ++ ws ≡ shown y
-  lawful : IsSoFar y
-
-same_state : (x y : HeaderSoFar) → IsSoFar x → Some x ≡ Some y → RunsOn x [] y
-same_state x y s e = some_is (RunsOn x []) x y (record { shows = append-nil (shown x); lawful = s }) e
-
-runs_on : (x : HeaderSoFar) (ts : List Token) (y : HeaderSoFar) → AreWords ts → IsSoFar x → run takes (Some x) (token_words ts) ≡ Some y → RunsOn x (token_words ts) y
-runs_on x [] y h s e = same_state x y s e
-runs_on x (t ∷ ts) y h s e = by (takes x t.word) refl e (λ z i f. runs_on z ts y h.1 i f)
-  where
-    by : (o : Option HeaderSoFar) → takes x t.word ≡ o → run takes o (token_words ts) ≡ Some y →
-        ((z : HeaderSoFar) → IsSoFar z → run takes (Some z) (token_words ts) ≡ Some y → RunsOn z (token_words ts) y) → RunsOn x (t.word ∷ token_words ts) y
-    by None f e g = none_is (sym (run-none takes (token_words ts)) ∙ e)
-    by (Some z) f e g =
-        let a = goes_on x t.word z h.0 s f in
-        let b = g z a.lawful e in
-        record { shows = sym (append_assoc (shown x) (t.word ∷ []) (token_words ts)) ∙ ap (λ ws. ws ++ token_words ts) a.shows ∙ b.shows; lawful = b.lawful }
 
 record IsHeaderOf (h : Header) (ws : List Word) : Type 0 where
   lawful : IsHeader h
@@ -232,32 +206,12 @@ ends_header f z (Some x) None ls h = absurd (false_true (h.both refl))
 
 -- ---- Completions ----
 
--- where a header ends, nothing has to follow
-by_nothing : (x : HeaderSoFar) (h : Header) → finished x ≡ Some h → Completes takes finished x
-by_nothing x h e = record {
-  more = [];
-  sound = λ k. tt;
-  words = λ k. tt;
-  ends = λ k. record { last = x; answer = h; runs = refl; ends = e };
-  apart = λ k h. absurd h;
-}
-
--- a name
-by_name : (x y : HeaderSoFar) (h : Header) → takes_name x (codes "A") ≡ Some y → finished y ≡ Some h → Completes takes finished x
-by_name x y h e f = record {
-  more = codes "A";
-  sound = λ k. (tt, tt);
-  words = λ k. (refl, tt);
-  ends = λ k. record { last = y; answer = h; runs = e; ends = f };
-  apart = λ k h. absurd h;
-}
-
 completes : (x : HeaderSoFar) → Completes takes finished x
-completes so_far.Opened = by_name so_far.Opened (named None (codes "A")) (record { f = codes "A"; result = None; left = None; right = None; locals = [] }) refl refl
-completes (so_far.Named h) = by_nothing (so_far.Named h) h refl
-completes (so_far.Assigned z) = by_name (so_far.Assigned z) (named (Some z) (codes "A")) (record { f = codes "A"; result = Some z; left = None; right = None; locals = [] }) refl refl
-completes (so_far.Semicolon h) = by_name (so_far.Semicolon h) (so_far.Local (with_local h (codes "A"))) (with_local h (codes "A")) refl refl
-completes (so_far.Local h) = by_nothing (so_far.Local h) h refl
+completes so_far.Opened = by_name takes finished so_far.Opened (named None (codes "A")) (record { f = codes "A"; result = None; left = None; right = None; locals = [] }) refl refl
+completes (so_far.Named h) = by_nothing takes finished (so_far.Named h) h refl
+completes (so_far.Assigned z) = by_name takes finished (so_far.Assigned z) (named (Some z) (codes "A")) (record { f = codes "A"; result = Some z; left = None; right = None; locals = [] }) refl refl
+completes (so_far.Semicolon h) = by_name takes finished (so_far.Semicolon h) (so_far.Local (with_local h (codes "A"))) (with_local h (codes "A")) refl refl
+completes (so_far.Local h) = by_nothing takes finished (so_far.Local h) h refl
 
 not_numbers : (w : Word) → glyph "∇" ≡ w → IsNumbers w → ⊥
 not_numbers w e h = subst IsNumbers (sym e) h
@@ -266,7 +220,7 @@ not_numbers w e h = subst IsNumbers (sym e) h
 pub read_sound : (n : ℕ) (ts : List Token) (y : HeaderSoFar) (h : Header) → AreWords ts → run takes (Some so_far.Opened) (token_words ts) ≡ Some y → finished y ≡ Some h →
     IsHeader h × Spell n (marks h) ts
 read_sound n ts y h w runs ends =
-    let r = runs_on so_far.Opened ts y w tt runs in
+    let r = runs_on takes shown IsSoFar goes_on so_far.Opened ts y w tt runs in
     let s = header_is y h (token_words ts) r.lawful ends r.shows in
     (s.lawful, spells_by_words n (marks h) ts (plain_marks h) s.same)
 
@@ -287,21 +241,12 @@ pub record IsOpened (ts : List Token) : Type 0 where
   pub first : Token
   pub rest : List Token
   pub split : ts ≡ first ∷ rest
-  pub glyph_is : glyph "∇" ≡ first.word
-
-nabla : (t : Token) (w : Word) → t.word ≡ w → is_glyph_token "∇" t ≡ true → glyph "∇" ≡ w
-nabla t w e g = by w (subst (λ v. (let b : Bool = elim v [ word.Glyph c ↦ c == code "∇" | _ ↦ false ] in b ≡ true)) e g)
-  where
-    by : (w : Word) → (let b : Bool = elim w [ word.Glyph c ↦ c == code "∇" | _ ↦ false ] in b ≡ true) → glyph "∇" ≡ w
-    by (word.Numbers zs) h = absurd (false_true h)
-    by (word.Chars zs) h = absurd (false_true h)
-    by (word.Name n) h = absurd (false_true h)
-    by (word.Glyph c) h = ap word.Glyph (sym (eqb-true c (code "∇") h))
+  pub begins : glyph "∇" ≡ first.word
 
 pub opened : (ts : List Token) → opens ts ≡ true → IsOpened ts
 opened [] e = absurd (false_true e)
 opened (t ∷ []) e = absurd (false_true e)
-opened (t ∷ u ∷ ts) e = record { first = t; rest = u ∷ ts; split = refl; glyph_is = nabla t t.word refl e }
+opened (t ∷ u ∷ ts) e = record { first = t; rest = u ∷ ts; split = refl; begins = glyph_is "∇" t e }
 
 -- the header that all tokens of the line are
 pub head_of_all : (l : Line) (ts : List Token) (i : ℕ) (y : HeaderSoFar) (h : Header) → AreWords l.tokens → opens l.tokens ≡ true → ts ≡ l.tokens →
@@ -310,24 +255,4 @@ head_of_all l ts i y h w o e len runs ends =
     let s = opened l.tokens o in
     let f = e ∙ s.split in
     let r = read_sound l.number s.rest y h (subst AreWords s.split w).1 (read_all takes so_far.Opened s.first ts s.rest i y f len runs) ends in
-    record { header = r.0; spells = subst (Spell l.number (header_spelling h)) (sym s.split) (s.glyph_is, r.1) }
-
--- where the reader stops at a token
-pub header_stops_before : (l : Line) (ts : List Token) (i : ℕ) (t : Token) (x : HeaderSoFar) → IsReadLine l → AreWords l.tokens → opens l.tokens ≡ true → ts ≡ l.tokens →
-    i < length (behind_first ts) → t ≡ get_or (behind_first ts) i t → run takes (Some so_far.Opened) (token_words (take i (behind_first ts))) ≡ Some x →
-    takes x t.word ≡ None → StopsAt first_line [] l.number l.tokens t.from
-header_stops_before l ts i t x r w o e len g runs stops =
-    let s = opened l.tokens o in
-    subst (λ us. StopsAt first_line [] l.number us t.from) e
-    (stopped_before takes finished so_far.Opened first_line [] l.number s.first (header_reads [] l.number s.first s.glyph_is) l.text ts s.rest i t x (e ∙ s.split)
-    (subst (IsRead l.text) (sym e) r.tokens) (subst AreWords (sym e) w) len g runs stops)
-
--- where it stops behind the last one
-pub header_stops_behind : (l : Line) (ts : List Token) (i : ℕ) (x : HeaderSoFar) → IsReadLine l → AreWords l.tokens → opens l.tokens ≡ true → ts ≡ l.tokens →
-    length (behind_first ts) ≤ i → run takes (Some so_far.Opened) (token_words (take i (behind_first ts))) ≡ Some x →
-    finished x ≡ None → StopsAt first_line [] l.number l.tokens (past_last ts)
-header_stops_behind l ts i x r w o e len runs ends_not =
-    let s = opened l.tokens o in
-    subst (λ us. StopsAt first_line [] l.number us (past_last ts)) e
-    (stopped_behind takes finished so_far.Opened first_line [] l.number s.first (header_reads [] l.number s.first s.glyph_is) l.text ts s.rest i x (e ∙ s.split)
-    (subst (IsRead l.text) (sym e) r.tokens) (subst AreWords (sym e) w) len runs ends_not)
+    record { header = r.0; spells = subst (Spell l.number (header_spelling h)) (sym s.split) (s.begins, r.1) }

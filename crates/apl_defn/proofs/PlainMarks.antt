@@ -1,4 +1,4 @@
--- Marks that say no place spell tokens by their words alone.
+-- The words of marks and tokens. Marks that say no place spell tokens by their words alone.
 use Rattle.std.proofs.Common.{◌≡◌, ℕ, List, [], ◌∷◌, ◌++◌}
 use Rattle.apl_model.proofs.Unique.{words_of, token_words}
 use Rattle.apl_model.specs.Spelling.{Mark, at, some, Spell, name_marks, local_marks, argument_marks, result_marks}

@@ -1,20 +1,22 @@
 -- A reader goes over the words of a line one by one. Where it stops is the place at which the line stops being the
 -- beginning of a lawful one.
-use Rattle.std.proofs.Common.{◌≡◌, ℕ, ◌+◌, ◌-◌, ◌<◌, ◌≤◌, List, [], ◌∷◌, ◌++◌, length, take, drop, get_or, Option, None, Some, ℤ, refl, sym, ap, subst, ◌∙◌, append-nil, arith}
+use Rattle.std.proofs.Common.{◌≡◌, ℕ, ◌+◌, ◌-◌, ◌<◌, ◌≤◌, List, [], ◌∷◌, ◌++◌, length, take, drop, get_or, Option, None, Some, ℤ, refl, sym, ap, subst, ◌∙◌, append_assoc, append-nil, codes, arith}
 use Rattle.std.proofs.lemmas.List.{drop_more, take_more, take_all, take-append-drop}
 use Rattle.std.specs.Option.{option_and_then}
 use Rattle.apl_model.proofs.Unique.{token_words}
 use Rattle.apl_model.specs.Refusal.{LineKind, IsLawful, IsBeginning, StopsAt, at_token, past_the_last, past_last}
 use Rattle.apl_model.specs.Tokens.{pieces_after, AreSound, IsRead}
 use Rattle.apl_model.specs.declared.tokens.Heading.{Heading}
+use Rattle.apl_model.specs.declared.tokens.Line.{Line}
 use Rattle.apl_model.specs.declared.tokens.Token.{Token}
 use Rattle.apl_model.specs.declared.tokens.Word.{Word}
 use Rattle.apl_model.specs.declared.tokens.Word.TheVariants as word
 use Rattle.apl_tree.proofs.Places.{words_append, words_front}
-use Rattle.apl_tree.proofs.SortFacts.{AreWords}
+use Rattle.apl_tree.proofs.SortFacts.{IsWord, AreWords}
 use Rattle.apl_tree.proofs.SplitTokens.{IsNumbers, EndsInNumbers, BeginsWithNumbers}
 use Rattle.apl_tree.proofs.Tails.{tokens_at}
 use Rattle.apl_defn.proofs.Continued.{continued}
+use Rattle.apl_defn.specs.Reading.{IsReadLine}
 
 -- ---- Runs ----
 
@@ -57,6 +59,40 @@ behind_first ts = take (length ts - 1) (drop 1 ts)
 rest_is : (first : Token) (ts us : List Token) → ts ≡ first ∷ us → behind_first ts ≡ us
 rest_is first ts us e = ap behind_first e ∙ take_all (length (first ∷ us) - 1) us (omega arith)
 
+-- the reader goes over all tokens
+pub read_all : {S : Type 0} (takes : S → Word → Option S) (start : S) (first : Token) (ts us : List Token) (i : ℕ) (x : S) → ts ≡ first ∷ us → length (behind_first ts) ≤ i →
+    run takes (Some start) (token_words (take i (behind_first ts))) ≡ Some x → run takes (Some start) (token_words us) ≡ Some x
+read_all takes start first ts us i x e l runs =
+    ap (λ vs. run takes (Some start) (token_words vs)) (sym (rest_is first ts us e) ∙ sym (take_all i (behind_first ts) l)) ∙ runs
+
+-- ---- What was read ----
+
+pub some_is : {A : Type 0} (P : A → Type 0) (a b : A) → P a → Some a ≡ Some b → P b
+some_is P a b h e = let f : a ≡ b = cc in subst P f h
+
+pub none_is : {A B : Type 0} {b : B} → None ≡ Some b → A
+none_is e = cc
+
+-- by these words the reader goes on from x to y: a state shows the words that were read, and is lawful
+pub record GoesOn {S : Type 0} (shown : S → List Word) (IsSoFar : S → Type 0) (x : S) (ws : List Word) (y : S) : Type 0 where
+  pub shows : shown x ++ ws ≡ shown y
+  pub lawful : IsSoFar y
+
+module _ {S : Type 0} (takes : S → Word → Option S) (shown : S → List Word) (IsSoFar : S → Type 0)
+    (goes_on : (x : S) (w : Word) (y : S) → IsWord w → IsSoFar x → takes x w ≡ Some y → GoesOn shown IsSoFar x (w ∷ []) y) where
+  -- a reader that goes on so by each word goes on so by many
+  pub runs_on : (x : S) (ts : List Token) (y : S) → AreWords ts → IsSoFar x → run takes (Some x) (token_words ts) ≡ Some y → GoesOn shown IsSoFar x (token_words ts) y
+  runs_on x [] y h s e = some_is (GoesOn shown IsSoFar x []) x y (record { shows = append-nil (shown x); lawful = s }) e
+  runs_on x (t ∷ ts) y h s e = by (takes x t.word) refl e (λ z i f. runs_on z ts y h.1 i f)
+    where
+      by : (o : Option S) → takes x t.word ≡ o → run takes o (token_words ts) ≡ Some y →
+          ((z : S) → IsSoFar z → run takes (Some z) (token_words ts) ≡ Some y → GoesOn shown IsSoFar z (token_words ts) y) → GoesOn shown IsSoFar x (t.word ∷ token_words ts) y
+      by None f e g = none_is (sym (run-none takes (token_words ts)) ∙ e)
+      by (Some z) f e g =
+          let a = goes_on x t.word z h.0 s f in
+          let b = g z a.lawful e in
+          record { shows = sym (append_assoc (shown x) (t.word ∷ []) (token_words ts)) ∙ ap (λ ws. ws ++ token_words ts) a.shows ∙ b.shows; lawful = b.lawful }
+
 -- ---- Readers of a kind of lines ----
 
 -- from the state x the reader goes over the words, and is at an end then
@@ -74,6 +110,26 @@ pub record Completes {S R : Type 0} (takes : S → Word → Option S) (finished 
   pub ends : (k : ℕ) → Ends takes finished x (token_words (tokens_at k more))
   pub apart : (k : ℕ) → BeginsWithNumbers (tokens_at k more) → (y : S) (zs : List ℤ) → takes y (word.Numbers zs) ≡ Some x → ⊥
 
+-- where the reader is at an end, nothing has to follow
+pub by_nothing : {S R : Type 0} (takes : S → Word → Option S) (finished : S → Option R) (x : S) (a : R) → finished x ≡ Some a → Completes takes finished x
+by_nothing takes finished x a e = record {
+  more = [];
+  sound = λ k. tt;
+  words = λ k. tt;
+  ends = λ k. record { last = x; answer = a; runs = refl; ends = e };
+  apart = λ k h. absurd h;
+}
+
+-- a name
+pub by_name : {S R : Type 0} (takes : S → Word → Option S) (finished : S → Option R) (x y : S) (a : R) → takes x (word.Name (codes "A")) ≡ Some y → finished y ≡ Some a → Completes takes finished x
+by_name takes finished x y a e f = record {
+  more = codes "A";
+  sound = λ k. (tt, tt);
+  words = λ k. (refl, tt);
+  ends = λ k. record { last = y; answer = a; runs = e; ends = f };
+  apart = λ k h. absurd h;
+}
+
 -- the reader is at an end exactly after the lawful lines of this kind that begin with this token
 pub record Reads {S R : Type 0} (takes : S → Word → Option S) (finished : S → Option R) (start : S) (kind : LineKind) (hs : List Heading) (n : ℕ) (first : Token) : Type 0 where
   pub begins : IsNumbers first.word → ⊥
@@ -89,9 +145,6 @@ pub data Stops {S R : Type 0} (takes : S → Word → Option S) (finished : S �
       column ≡ past_last (first ∷ ts) → Stops takes finished start first ts column
 
 module _ {S R : Type 0} (takes : S → Word → Option S) (finished : S → Option R) where
-  some_clash : {A : Type 0} {a : A} → None ≡ Some a → ⊥
-  some_clash e = cc
-
   -- a word of numbers that the reader took last
   numbers_last : (start x : S) (ts : List Token) → EndsInNumbers ts → run takes (Some start) (token_words ts) ≡ Some x →
       ((y : S) (zs : List ℤ) → takes y (word.Numbers zs) ≡ Some x → ⊥) → ⊥
@@ -106,7 +159,7 @@ module _ {S R : Type 0} (takes : S → Word → Option S) (finished : S → Opti
   numbers_last start x (t ∷ u ∷ ts) i e f = by (takes start t.word) e (λ y g. numbers_last y x (u ∷ ts) i g f)
     where
       by : (o : Option S) → run takes o (token_words (u ∷ ts)) ≡ Some x → ((y : S) → run takes (Some y) (token_words (u ∷ ts)) ≡ Some x → ⊥) → ⊥
-      by None e g = some_clash (sym (run-none takes (token_words (u ∷ ts))) ∙ e)
+      by None e g = none_is (sym (run-none takes (token_words (u ∷ ts))) ∙ e)
       by (Some y) e g = g y e
 
   module _ (start : S) (kind : LineKind) (hs : List Heading) (n : ℕ) (first : Token) (reads : Reads takes finished start kind hs n first) where
@@ -139,7 +192,7 @@ module _ {S R : Type 0} (takes : S → Word → Option S) (finished : S → Opti
     begins_none : (ts : List Token) → run takes (Some start) (token_words ts) ≡ None → IsBeginning kind hs n (first ∷ ts) → ⊥
     begins_none ts e b =
         let f = reads.complete (ts ++ b.rest) b.lawful in
-        some_clash (sym (run-tokens takes (Some start) ts b.rest ∙ ap (λ y. run takes y (token_words b.rest)) e ∙ run-none takes (token_words b.rest)) ∙ f.runs)
+        none_is (sym (run-tokens takes (Some start) ts b.rest ∙ ap (λ y. run takes y (token_words b.rest)) e ∙ run-none takes (token_words b.rest)) ∙ f.runs)
 
     -- where the reader stops, the line stops being the beginning of a lawful one
     pub stops_at : (line : List ℕ) (ts : List Token) (column : ℕ) → IsRead line (first ∷ ts) → AreWords ts → Stops takes finished start first ts column →
@@ -153,33 +206,24 @@ module _ {S R : Type 0} (takes : S → Word → Option S) (finished : S → Opti
         (λ l. let f = reads.complete ts l in unended x f.last f.answer (sym runs ∙ f.runs) f.ends ends_not) at
       where
         unended : (x y : S) (a : R) → Some x ≡ Some y → finished y ≡ Some a → finished x ≡ None → ⊥
-        unended x y a e f g = let h : x ≡ y = cc in some_clash (sym g ∙ ap finished h ∙ f)
+        unended x y a e f g = let h : x ≡ y = cc in none_is (sym g ∙ ap finished h ∙ f)
 
-    -- ---- Places of a line's tokens ----
+    -- ---- Lines ----
 
     -- the reader stops at the token at this place behind the first one
-    pub stopped_before : (line : List ℕ) (ts us : List Token) (i : ℕ) (t : Token) (x : S) → ts ≡ first ∷ us → IsRead line ts → AreWords ts →
+    pub stopped_before : (l : Line) (ts rest : List Token) (i : ℕ) (t : Token) (x : S) → IsReadLine l → AreWords l.tokens → l.tokens ≡ first ∷ rest → ts ≡ l.tokens →
         i < length (behind_first ts) → t ≡ get_or (behind_first ts) i t → run takes (Some start) (token_words (take i (behind_first ts))) ≡ Some x →
-        takes x t.word ≡ None → StopsAt kind hs n ts t.from
-    stopped_before line ts us i t x e r w l g runs stops =
-        let f = rest_is first ts us e in
-        let c = cut_at (behind_first ts) i t l g in
-        subst (λ vs. StopsAt kind hs n vs t.from) (sym e)
-        (stops_at line us t.from (subst (IsRead line) e r) (subst AreWords e w).1
-        (before_token (take i (behind_first ts)) t (drop (i + 1) (behind_first ts)) x (sym f ∙ c) runs stops refl))
+        takes x t.word ≡ None → StopsAt kind hs n l.tokens t.from
+    stopped_before l ts rest i t x r w split e len g runs stops =
+        subst (λ us. StopsAt kind hs n us t.from) (sym split)
+        (stops_at l.text rest t.from (subst (IsRead l.text) split r.tokens) (subst AreWords split w).1
+        (before_token (take i (behind_first ts)) t (drop (i + 1) (behind_first ts)) x (sym (rest_is first ts rest (e ∙ split)) ∙ cut_at (behind_first ts) i t len g) runs stops refl))
 
     -- the reader stops behind the last token
-    pub stopped_behind : (line : List ℕ) (ts us : List Token) (i : ℕ) (x : S) → ts ≡ first ∷ us → IsRead line ts → AreWords ts →
+    pub stopped_behind : (l : Line) (ts rest : List Token) (i : ℕ) (x : S) → IsReadLine l → AreWords l.tokens → l.tokens ≡ first ∷ rest → ts ≡ l.tokens →
         length (behind_first ts) ≤ i → run takes (Some start) (token_words (take i (behind_first ts))) ≡ Some x →
-        finished x ≡ None → StopsAt kind hs n ts (past_last ts)
-    stopped_behind line ts us i x e r w l runs ends_not =
-        let f = rest_is first ts us e in
-        let g : run takes (Some start) (token_words us) ≡ Some x = ap (λ vs. run takes (Some start) (token_words vs)) (sym f ∙ sym (take_all i (behind_first ts) l)) ∙ runs in
-        subst (λ vs. StopsAt kind hs n vs (past_last vs)) (sym e)
-        (stops_at line us (past_last (first ∷ us)) (subst (IsRead line) e r) (subst AreWords e w).1 (behind_all x g ends_not refl))
-
--- the reader goes over all tokens
-pub read_all : {S : Type 0} (takes : S → Word → Option S) (start : S) (first : Token) (ts us : List Token) (i : ℕ) (x : S) → ts ≡ first ∷ us → length (behind_first ts) ≤ i →
-    run takes (Some start) (token_words (take i (behind_first ts))) ≡ Some x → run takes (Some start) (token_words us) ≡ Some x
-read_all takes start first ts us i x e l runs =
-    ap (λ vs. run takes (Some start) (token_words vs)) (sym (rest_is first ts us e) ∙ sym (take_all i (behind_first ts) l)) ∙ runs
+        finished x ≡ None → StopsAt kind hs n l.tokens (past_last ts)
+    stopped_behind l ts rest i x r w split e len runs ends_not =
+        subst (λ us. StopsAt kind hs n us (past_last ts)) (sym split)
+        (stops_at l.text rest (past_last ts) (subst (IsRead l.text) split r.tokens) (subst AreWords split w).1
+        (behind_all x (read_all takes start first ts rest i x (e ∙ split) len runs) ends_not (ap past_last (e ∙ split))))
