@@ -2,7 +2,7 @@
 use Rattle.std.proofs.Common.{◌≡◌, ℕ, ◌==◌, Bool, true, false, cond, IsTrue, List, [], ◌∷◌, ◌++◌, ◌<◌, ◌≤◌, length, take, get_or, Option, None, Some, refl, sym, ap, subst, ◌∙◌, append_assoc, append-nil, codes}
 use Rattle.std.proofs.lemmas.Bool.{eqb-true}
 use Rattle.std.specs.Option.{option_and_then}
-use Rattle.apl_model.proofs.Unique.{word_of, words_of, token_words, same_words}
+use Rattle.apl_model.proofs.Unique.{words_of, token_words, same_words}
 use Rattle.apl_model.specs.Characters.{code, is_name}
 use Rattle.apl_model.specs.Grammar.{IsHeader, IsOptionalName, AreNames}
 use Rattle.apl_model.specs.Refusal.{first_line, IsLawful, StopsAt, past_last}
@@ -18,7 +18,7 @@ use Rattle.apl_model.specs.declared.tokens.Word.TheVariants as word
 use Rattle.apl_tree.proofs.SortFacts.{IsWord, AreWords}
 use Rattle.apl_tree.proofs.SplitTokens.{IsNumbers}
 use Rattle.apl_defn.proofs.LineWords.{glyph_is}
-use Rattle.apl_defn.proofs.PlainMarks.{ArePlain, plain-append, plain_locals, plain_argument, plain_result, spells_by_words}
+use Rattle.apl_defn.proofs.PlainMarks.{names_more, words-append, ArePlain, plain-append, plain_locals, plain_argument, plain_result, spells_by_words}
 use Rattle.apl_defn.proofs.Readers.{run, behind_first, read_all, GoesOn, runs_on, some_is, none_is, Ends, Completes, by_nothing, by_name, Reads}
 use Rattle.apl_defn.specs.HeaderSteps.{named, with_argument, with_local, as_result, takes_name, takes_arrow, takes_semicolon, takes, finished}
 use Rattle.apl_defn.specs.Reading.{IsReadLine}
@@ -108,10 +108,6 @@ result_goes f None None (Some y) ls next h e g = none_is g
 result_goes f None (Some x) y ls next h e g = none_is g
 result_goes f (Some z) x y ls next h e g = none_is g
 
-words-append : (ms ns : List Mark) → words_of (ms ++ ns) ≡ words_of ms ++ words_of ns
-words-append [] ns = refl
-words-append (m ∷ ms) ns = ap (λ ws. word_of m ∷ ws) (words-append ms ns)
-
 -- one local more
 locals_more : (ls : List (List ℕ)) (l : List ℕ) → words_of (local_marks (ls ++ (l ∷ []))) ≡ words_of (local_marks ls) ++ (glyph ";" ∷ word.Name l ∷ [])
 locals_more [] l = refl
@@ -119,10 +115,6 @@ locals_more (k ∷ ks) l = ap (λ ws. glyph ";" ∷ word.Name k ∷ ws) (locals_
 
 local_shown : (h : Header) (l : List ℕ) → (words_of (marks h) ++ (glyph ";" ∷ [])) ++ (word.Name l ∷ []) ≡ words_of (marks (with_local h l))
 local_shown h l = simp (words-append, append_assoc, locals_more)
-
-names_more : (ls : List (List ℕ)) (l : List ℕ) → AreNames ls → IsTrue (is_name l) → AreNames (ls ++ (l ∷ []))
-names_more [] l h i = (i, tt)
-names_more (k ∷ ks) l h i = (h.0, names_more ks l h.1 i)
 
 local_lawful : (h : Header) (l : List ℕ) → IsHeader h → IsTrue (is_name l) → IsHeader (with_local h l)
 local_lawful h l i j = record { f = i.f; result = i.result; left = i.left; right = i.right; locals = names_more h.locals l i.locals j; both = i.both }

@@ -1,3 +1,4 @@
+pub mod CommandReads
 pub mod Continued
 pub mod HeaderReads
 pub mod LineWords

@@ -1,10 +1,20 @@
 -- The words of marks and tokens. Marks that say no place spell tokens by their words alone.
-use Rattle.std.proofs.Common.{◌≡◌, ℕ, List, [], ◌∷◌, ◌++◌}
-use Rattle.apl_model.proofs.Unique.{words_of, token_words}
+use Rattle.std.proofs.Common.{◌≡◌, ℕ, IsTrue, List, [], ◌∷◌, ◌++◌, Option, None, Some, refl, ap}
+use Rattle.apl_model.proofs.Unique.{word_of, words_of, token_words}
+use Rattle.apl_model.specs.Characters.{is_name}
+use Rattle.apl_model.specs.Grammar.{AreNames}
 use Rattle.apl_model.specs.Spelling.{Mark, at, some, Spell, name_marks, local_marks, argument_marks, result_marks}
 use Rattle.apl_model.specs.declared.tokens.Token.{Token}
 use Rattle.apl_model.specs.declared.tokens.Word.{Word}
-use Rattle.std.specs.Prelude.{Option, None, Some}
+
+pub words-append : (ms ns : List Mark) → words_of (ms ++ ns) ≡ words_of ms ++ words_of ns
+words-append [] ns = refl
+words-append (m ∷ ms) ns = ap (λ ws. word_of m ∷ ws) (words-append ms ns)
+
+-- one name more
+pub names_more : (ls : List (List ℕ)) (l : List ℕ) → AreNames ls → IsTrue (is_name l) → AreNames (ls ++ (l ∷ []))
+names_more [] l h i = (i, tt)
+names_more (k ∷ ks) l h i = (h.0, names_more ks l h.1 i)
 
 -- no mark says a place
 abbrev pub ArePlain : List Mark → Type 0

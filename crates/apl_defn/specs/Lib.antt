@@ -2,3 +2,4 @@ pub mod Reading
 pub mod Earliest
 pub mod NameRules
 pub mod HeaderSteps
+pub mod CommandSteps

@@ -1,4 +1,4 @@
-use Rattle.std.proofs.Common.{◌≡◌, drop, take, Some}
+use Rattle.std.proofs.Common.{◌≡◌, take, Some}
 use Rattle.apl_model.proofs.Unique.{token_words}
 use Rattle.apl_defn.proofs.Readers.{run}
 use Rattle.apl_defn.specs.HeaderSteps.{takes}
