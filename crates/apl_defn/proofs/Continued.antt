@@ -1,5 +1,5 @@
 -- A line that is cut behind some of its tokens, and goes on with another text.
-use Rattle.std.proofs.Common.{◌≡◌, ℕ, List, ◌++◌, sym, ap, subst, ◌∙◌, arith}
+use Rattle.std.proofs.Common.{ℕ, List, ◌++◌, sym, ap, subst, ◌∙◌, arith}
 use Rattle.apl_model.specs.Tokens.{pieces, pieces_after, tokens_of_pieces, AreSound, IsRead}
 use Rattle.apl_model.specs.declared.tokens.Token.{Token}
 use Rattle.apl_tree.proofs.Cuts.{cut, pieces_cut}

@@ -7,11 +7,12 @@ use Rattle.apl_model.specs.Spelling.{Mark, at, some, Spell, name_marks, local_ma
 use Rattle.apl_model.specs.declared.tokens.Token.{Token}
 use Rattle.apl_model.specs.declared.tokens.Word.{Word}
 
+-- the words of marks joined
 pub words-append : (ms ns : List Mark) → words_of (ms ++ ns) ≡ words_of ms ++ words_of ns
 words-append [] ns = refl
 words-append (m ∷ ms) ns = ap (λ ws. word_of m ∷ ws) (words-append ms ns)
 
--- one name more
+-- names, and one more
 pub names_more : (ls : List (List ℕ)) (l : List ℕ) → AreNames ls → IsTrue (is_name l) → AreNames (ls ++ (l ∷ []))
 names_more [] l h i = (i, tt)
 names_more (k ∷ ks) l h i = (h.0, names_more ks l h.1 i)
@@ -22,6 +23,7 @@ ArePlain [] = Unit {0}
 ArePlain (at p w ∷ ms) = ⊥
 ArePlain (some w ∷ ms) = ArePlain ms
 
+-- the marks of headers and commands say no places
 pub plain-append : (ms ns : List Mark) → ArePlain ms → ArePlain ns → ArePlain (ms ++ ns)
 plain-append [] ns h i = i
 plain-append (at p w ∷ ms) ns h i = absurd h

@@ -25,14 +25,17 @@ abbrev pub run : {S : Type 0} → (S → Word → Option S) → Option S → Lis
 run takes x [] = x
 run takes x (w ∷ ws) = run takes (option_and_then (λ y. takes y w) x) ws
 
+-- the words of tokens joined
 pub words-append : (ts us : List Token) → token_words (ts ++ us) ≡ token_words ts ++ token_words us
 words-append [] us = refl
 words-append (t ∷ ts) us = ap (λ ws. t.word ∷ ws) (words-append ts us)
 
+-- the state after words joined
 pub run-append : {S : Type 0} (takes : S → Word → Option S) (x : Option S) (ws vs : List Word) → run takes x (ws ++ vs) ≡ run takes (run takes x ws) vs
 run-append takes x [] vs = refl
 run-append takes x (w ∷ ws) vs = run-append takes (option_and_then (λ y. takes y w) x) ws vs
 
+-- what stopped stays so
 pub run-none : {S : Type 0} (takes : S → Word → Option S) (ws : List Word) → run takes None ws ≡ None
 run-none takes [] = refl
 run-none takes (w ∷ ws) = run-none takes ws
@@ -49,6 +52,7 @@ run-more takes x y ts i t l e r =
     ap (λ us. run takes x (token_words us)) (take_more ts i t l ∙ ap (λ (u : Token). take i ts ++ u ∷ []) (sym e))
     ∙ run-tokens takes x (take i ts) (t ∷ []) ∙ ap (λ z. run takes z (t.word ∷ [])) r
 
+-- the tokens cut before one of them
 pub cut_at : (ts : List Token) (i : ℕ) (t : Token) → i < length ts → t ≡ get_or ts i t → ts ≡ take i ts ++ (t ∷ drop (i + 1) ts)
 cut_at ts i t l e = sym (take-append-drop i ts) ∙ ap (λ us. take i ts ++ us) (drop_more ts i t l ∙ ap (λ (u : Token). u ∷ drop (i + 1) ts) (sym e))
 
@@ -56,6 +60,7 @@ cut_at ts i t l e = sym (take-append-drop i ts) ∙ ap (λ us. take i ts ++ us) 
 abbrev pub behind_first : List Token → List Token
 behind_first ts = take (length ts - 1) (drop 1 ts)
 
+-- that slice of a list with a first token
 rest_is : (first : Token) (ts us : List Token) → ts ≡ first ∷ us → behind_first ts ≡ us
 rest_is first ts us e = ap behind_first e ∙ take_all (length (first ∷ us) - 1) us (omega arith)
 
@@ -67,9 +72,11 @@ read_all takes start first ts us i x e l runs =
 
 -- ---- What was read ----
 
+-- what holds of a holds of what Some a equals
 pub some_is : {A : Type 0} (P : A → Type 0) (a b : A) → P a → Some a ≡ Some b → P b
 some_is P a b h e = let f : a ≡ b = cc in subst P f h
 
+-- None equals no Some
 pub none_is : {A B : Type 0} {b : B} → None ≡ Some b → A
 none_is e = cc
 

@@ -1,12 +1,11 @@
 -- The name is that of the literal that its text is.
-use Rattle.std.proofs.Common.{◌≡◌, ℕ, Bool, true, false, cond, List, [], Option, None, Some, refl, sym, ap, ◌∙◌, codes}
+use Rattle.std.proofs.Common.{◌≡◌, ℕ, Bool, true, false, cond, List, [], None, Some, refl, sym, ap, ◌∙◌, codes}
 use Rattle.std.specs.Char.{encode_utf8}
 use Rattle.std.specs.Cmp.Lexicographic.{bytes_decides}
 use Rattle.std.specs.Str.{chars, encode_utf8_all}
 use Rattle.apl_model.specs.Environment.{is_same_name}
 use Rattle.apl_model.specs.declared.scripts.Command.TheVariants as command
 use Rattle.apl_defn.specs.CommandSteps as step
-use Rattle.apl_defn.specs.declared.commands.CommandSoFar.{CommandSoFar}
 use Rattle.apl_defn.specs.declared.commands.CommandSoFar.TheVariants as so_far
 use Rattle.apl_defn.proofs.commands.named.Goals as goal
 
@@ -15,13 +14,16 @@ named_is : (n : List ℕ) (a b c d : Bool) → is_same_name n (codes "VARS") ≡
     cond a (Some (so_far.Whole command.Vars)) (cond b (Some (so_far.Whole command.Fns)) (cond c (Some (so_far.Erases [])) (cond d (Some so_far.Origin) None))) ≡ step.named n
 named_is n a b c d e f g h = λ i. cond (sym e i) (Some (so_far.Whole command.Vars)) (cond (sym f i) (Some (so_far.Whole command.Fns)) (cond (sym g i) (Some (so_far.Erases [])) (cond (sym h i) (Some so_far.Origin) None)))
 
+-- a name whose text is the literal is that word
 is_it : (n bytes w : List ℕ) → chars bytes ≡ n → bytes ≡ w → chars w ≡ w → is_same_name n w ≡ true
 is_it n bytes w e f g = (bytes_decides n w).1 (sym e ∙ ap chars f ∙ g)
 
+-- a test of what does not hold is false
 by_false : (b : Bool) (P : Type 0) → (b ≡ true → P) → (P → ⊥) → b ≡ false
 by_false true P f g = absurd (g (f refl))
 by_false false P f g = refl
 
+-- and one whose text is not is another
 is_not : (n bytes w : List ℕ) → bytes ≡ encode_utf8_all n → (bytes ≡ w → ⊥) → encode_utf8_all w ≡ w → is_same_name n w ≡ false
 is_not n bytes w e f g = by_false (is_same_name n w) (n ≡ w) (bytes_decides n w).0 (λ h. f (e ∙ ap encode_utf8_all h ∙ g))
 

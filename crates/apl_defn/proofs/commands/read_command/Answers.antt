@@ -16,9 +16,9 @@ returns-in-None-clause-stopped c =
     let words = line_words l c.as_str-text.result.now c.as_str-text.utf8 c.as_str-text.ensures c.requires.read in
     let within : i < length (behind_first ts) = omega arith in
     λ hs.
-        stopped_before takes finished so_far.Opened outside hs l.number b.0 (command_reads hs l.number b.0 (glyph_is ")" b.0 b.3))
-        l ts b.1 i c.token-item.result c.loop-token.command c.requires.read words b.2 c.as_slice-tokens.ensures
-        within c.token-item.is c.loop-token.invariant (sym c.in_ok-next.ensures ∙ c.in-None.is)
+    stopped_before takes finished so_far.Opened outside hs l.number b.0 (command_reads hs l.number b.0 (glyph_is ")" b.0 b.3))
+    l ts b.1 i c.token-item.result c.loop-token.command c.requires.read words b.2 c.as_slice-tokens.ensures
+    within c.token-item.is c.loop-token.invariant (sym c.in_ok-next.ensures ∙ c.in-None.is)
 
 pub loop-token-preserved : goal.loop-token-preserved
 loop-token-preserved c =
@@ -49,6 +49,6 @@ returns-in-None-finish-clause-stopped c =
     let past : length (behind_first ts) ≤ i = omega arith in
     rw c.ends_early.ensures
     (λ hs.
-        stopped_behind takes finished so_far.Opened outside hs l.number b.0 (command_reads hs l.number b.0 (glyph_is ")" b.0 b.3))
-        l ts b.1 i c.loop-token.command c.requires.read words b.2 c.as_slice-tokens.ensures
-        past c.loop-token.invariant (sym c.in-None-finish.ensures))
+    stopped_behind takes finished so_far.Opened outside hs l.number b.0 (command_reads hs l.number b.0 (glyph_is ")" b.0 b.3))
+    l ts b.1 i c.loop-token.command c.requires.read words b.2 c.as_slice-tokens.ensures
+    past c.loop-token.invariant (sym c.in-None-finish.ensures))
