@@ -1,3 +1,9 @@
 pub mod BodyLines
 pub mod OutsideLines
 pub mod Stopped
+pub mod CommandReads
+pub mod Continued
+pub mod HeaderReads
+pub mod LineWords
+pub mod PlainMarks
+pub mod Readers
