@@ -9,7 +9,11 @@ use std::alloc::Global;
 
 /// The first name that a definition with this first line and body declares a second time. It takes time in proportion
 /// to the tokens.
-pub(crate) fn repeated_name(alloc: Global, first: &Line, body: &[Line]) -> Result<Option<Refusal>, NoMemory>
+pub(crate) fn repeated_name(
+    alloc: Global,
+    first: &Line,
+    body: &[Line],
+) -> Result<Option<Refusal>, NoMemory>
     ensures { IfOk result (IsFirstIfAny (IsRepeated first.now body.now)) }
 {
     unreachable!()
@@ -30,7 +34,12 @@ pub(crate) fn erased_name(line: &Line, lookup: &Lookup) -> Option<Refusal>
 }
 
 /// The first heading name, other than its own, that a definition declares.
-pub(crate) fn declared_name(own: &Name, first: &Line, body: &[Line], lookup: &Lookup) -> Option<Refusal>
+pub(crate) fn declared_name(
+    own: &Name,
+    first: &Line,
+    body: &[Line],
+    lookup: &Lookup,
+) -> Option<Refusal>
     ensures { IsFirstIfAny (IsDeclared lookup.now own.now first.now body.now) result }
 {
     unreachable!()
