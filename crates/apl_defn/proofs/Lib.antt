@@ -1,2 +1,3 @@
 pub mod EarlierLemmas
 pub mod NameSetLemmas
+pub mod PlaceLemmas
