@@ -1,3 +1,5 @@
+pub mod AssignedLemmas
+pub mod DepthLemmas
 pub mod EarlierLemmas
 pub mod NameSetLemmas
 pub mod PlaceLemmas

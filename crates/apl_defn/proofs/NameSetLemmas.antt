@@ -104,10 +104,9 @@ pub text_of_name : {Z : Type 0} (t : String Z) (bytes n : List ℕ) → string_b
 text_of_name t bytes n e f g = ap (λ b. encode_utf8_all (chars b)) e ∙ ap encode_utf8_all f ∙ sym g ∙ sym e
 
 -- what adding a text says of the names
-module _ {Z : Type 0} (ts us : List (String Z)) (t : String Z) (n : List ℕ) (added : Bool) (texts : AreTexts ts) (text : IsText t)
-    (own : chars (string_bytes t) ≡ n) where
-  pub names_added : us ≡ insert_key string_cmp ts t → (m : List ℕ) → IsAmong (names_of us) m ↔ ((m ≡ n) ⊎ IsAmong (names_of ts) m)
-  names_added e m = (there, back)
+module _ {Z : Type 0} (ts : List (String Z)) (t : String Z) (n : List ℕ) (own : chars (string_bytes t) ≡ n) where
+  pub names_added : (us : List (String Z)) → us ≡ insert_key string_cmp ts t → (m : List ℕ) → IsAmong (names_of us) m ↔ ((m ≡ n) ⊎ IsAmong (names_of ts) m)
+  names_added us e m = (there, back)
     where
       there : IsAmong (names_of us) m → (m ≡ n) ⊎ IsAmong (names_of ts) m
       there k = subst (λ v. (m ≡ v) ⊎ IsAmong (names_of ts) m) own (names_were ts t m (subst (λ v. IsAmong (names_of v) m) e k))
@@ -115,15 +114,14 @@ module _ {Z : Type 0} (ts us : List (String Z)) (t : String Z) (n : List ℕ) (a
       back (inl f) = subst (λ v. IsAmong (names_of v) m) (sym e) (subst (λ v. IsAmong (names_of (insert_key string_cmp ts t)) v) (own ∙ sym f) (name_comes ts t))
       back (inr k) = subst (λ v. IsAmong (names_of v) m) (sym e) (names_stay ts t m k)
 
-  pub added_new : added ≡ not (list_any (λ u. is_eq (string_cmp t u)) ts) → IsTrue added ↔ (IsAmong (names_of ts) n → ⊥)
-  added_new e = (there, back)
+  pub added_met : (added : Bool) → AreTexts ts → IsText t → added ≡ not (list_any (λ u. is_eq (string_cmp t u)) ts) → IsTrue (not added) ↔ IsAmong (names_of ts) n
+  added_met added texts text e = (
+    λ k. subst (λ v. IsAmong (names_of ts) v) own (met_is ts t (twice ∙ k)),
+    λ k. sym twice ∙ is_met ts t texts text (subst (λ v. IsAmong (names_of ts) v) (sym own) k),
+  )
     where
-      not_met : IsAmong (names_of ts) n → added ≡ false
-      not_met k = e ∙ ap not (is_met ts t texts text (subst (λ v. IsAmong (names_of ts) v) (sym own) k))
-      there : IsTrue added → IsAmong (names_of ts) n → ⊥
-      there h k = let f = not_met k in let g : false ≡ true = sym f ∙ h in cc
-      by_test : (b : Bool) → list_any (λ u. is_eq (string_cmp t u)) ts ≡ b → (IsAmong (names_of ts) n → ⊥) → added ≡ true
-      by_test true f h = absurd (h (subst (λ v. IsAmong (names_of ts) v) own (met_is ts t f)))
-      by_test false f h = e ∙ ap not f
-      back : (IsAmong (names_of ts) n → ⊥) → IsTrue added
-      back h = by_test (list_any (λ u. is_eq (string_cmp t u)) ts) refl h
+      not-not : (b : Bool) → not (not b) ≡ b
+      not-not true = refl
+      not-not false = refl
+      twice : list_any (λ u. is_eq (string_cmp t u)) ts ≡ not added
+      twice = sym (not-not (list_any (λ u. is_eq (string_cmp t u)) ts)) ∙ ap not (sym e)

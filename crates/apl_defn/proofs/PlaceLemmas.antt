@@ -1,6 +1,6 @@
 -- Names at their places: one place after the other.
 use Rattle.std.proofs.Common.{◌≡◌, ℕ, ◌+◌, ◌<◌, ◌≤◌, true, false, List, [], ◌∷◌, ◌++◌, length, take, drop, get_or, Option, None, Some, ◌⊎◌, inl, inr, ◌↔◌, refl, sym, ap, subst, ◌∙◌, append_assoc, append-nil, arith}
-use Rattle.std.specs.Prelude.{if◌then◌else◌}
+use Rattle.std.specs.Prelude.{if◌then◌else◌, codes}
 use Rattle.std.specs.List.{IsAmong}
 use Rattle.std.proofs.lemmas.List.{take_more, take_all}
 use Rattle.apl_base.specs.declared.faults.Cause.TheVariants as cause
@@ -14,7 +14,7 @@ use Rattle.apl_model.specs.declared.tokens.Word.TheVariants as word
 use Rattle.apl_read.specs.Refusals.{IsFirstIfAny}
 use Rattle.apl_defn.proofs.EarlierLemmas.{earlier_first, first_like, only_first}
 use Rattle.apl_defn.specs.Earliest.{earlier}
-use Rattle.apl_defn.specs.NameRules.{IsRepeated, IsHeading, IsDeclared}
+use Rattle.apl_defn.specs.NameRules.{IsRepeated, IsHeading, IsErased, IsDeclared}
 use Rattle.apl_defn.specs.Occurrences.{at_most_one, IsNamed, IsWrong, IsMetAgain}
 use Rattle.apl_defn.specs.declared.occurrences.Occurrence as found
 use Rattle.apl_model.specs.Grammar.{arguments_of}
@@ -107,6 +107,9 @@ pub one_more : (Kind : List ℕ → Type 0) (os qs us ws : List Occurrence) (a b
 one_more Kind os qs us ws a b e f h k = record {
   first = subst (λ v. IsFirstIfAny (IsWrong Kind v) (earlier a b)) (sym e) (wrong_more Kind os qs a b h.first (subst (λ v. IsFirstIfAny (IsWrong Kind v) b) f k));
 }
+
+pub wrong_along : (Kind : List ℕ → Type 0) (os us : List Occurrence) (a : Option Refusal) → os ≡ us → IsFirstWrong Kind os a → IsFirstWrong Kind us a
+wrong_along Kind os us a e h = subst (λ v. IsFirstWrong Kind v a) e h
 
 -- the declared names that are wrong are those that head another definition
 pub declared_first : (hs : List Heading) (own : List ℕ) (top : Line) (body : List Line) (a : Option Refusal) →
@@ -306,7 +309,7 @@ wrong_alike Kind Other o a f g h = first_like (IsWrong Kind (o ∷ [])) (IsWrong
       | inr k ↦ absurd (among_none x.here k)
     ]
 
--- ---- A heading name directly before ← ----
+-- ---- A heading name directly before ←, or after )ERASE ----
 
 -- the name at a place of one token is the token
 pub name_of_token : (n : ℕ) (t : Token) (o : Occurrence) → IsAmong (names_in n (t ∷ [])) o → (name : List ℕ) × (t.word ≡ word.Name name) × (o ≡ record { name = name; line = n; column = t.from })
@@ -318,6 +321,43 @@ name_of_token n t o m = elim (t.word) as (λ w. t.word ≡ w → IsAmong (let r 
 
 pub token_of_name : (n : ℕ) (t : Token) (name : List ℕ) → t.word ≡ word.Name name → IsAmong (names_in n (t ∷ [])) (record { name = name; line = n; column = t.from })
 token_of_name n t name e = rw e (among_here [] (record { name = name; line = n; column = t.from }) (record { name = name; line = n; column = t.from }) refl)
+
+-- a name at a place of tokens is one of them
+record IsTokenNamed (n : ℕ) (ts : List Token) (o : Occurrence) : Type 0 where
+  before : List Token
+  after : List Token
+  token : Token
+  split : ts ≡ before ++ (token ∷ after)
+  named : token.word ≡ word.Name o.name
+  place : o ≡ record { name = o.name; line = n; column = token.from }
+
+token_named : (n : ℕ) (ts : List Token) (o : Occurrence) → IsAmong (names_in n ts) o → IsTokenNamed n ts o
+token_named n [] o m = absurd (among_none o m)
+token_named n (t ∷ ts) o m = elim (among_either (names_in n (t ∷ [])) (names_in n ts) o (subst (λ v. IsAmong v o) (names_more n (t ∷ []) ts) m)) [
+  | inl k ↦ (let h = name_of_token n t o k in let same : h.0 ≡ o.name = ap (λ (v : Occurrence). v.name) (sym h.2) in record {
+    before = [];
+    after = ts;
+    token = t;
+    split = refl;
+    named = h.1 ∙ ap word.Name same;
+    place = h.2 ∙ ap (λ v. record { name = v; line = n; column = t.from }) same;
+  })
+  | inr k ↦ (let h = token_named n ts o k in record {
+    before = t ∷ h.before;
+    after = h.after;
+    token = h.token;
+    split = ap (λ v. t ∷ v) h.split;
+    named = h.named;
+    place = h.place;
+  })
+]
+
+named_token : (n : ℕ) (before : List Token) (t : Token) (after : List Token) (name : List ℕ) → t.word ≡ word.Name name →
+    IsAmong (names_in n (before ++ (t ∷ after))) (record { name = name; line = n; column = t.from })
+named_token n before t after name e =
+    let o : Occurrence = record { name = name; line = n; column = t.from } in
+    subst (λ v. IsAmong v o) (sym (names_more n before (t ∷ after))) (among_second (names_in n before) (names_in n (t ∷ after)) o
+    (subst (λ v. IsAmong v o) (sym (names_more n (t ∷ []) after)) (among_first (names_in n (t ∷ [])) (names_in n after) o (token_of_name n t name e))))
 
 pub two_first : (ts : List Token) (t u : Token) → 2 ≤ length ts → t ≡ get_or ts 0 t → u ≡ get_or ts 1 u → ts ≡ t ∷ u ∷ drop 2 ts
 two_first [] t u l e f = absurd (omega arith)
@@ -352,3 +392,35 @@ assigned_here hs n ts rest t u a e g h = first_like (IsWrong (IsHeading hs) (nam
       where
         first_same : {v w : Token} {vs ws : List Token} → v ∷ vs ≡ w ∷ ws → v ≡ w
         first_same e = cc
+
+-- the heading names after )ERASE are names at places
+pub erased_here : (hs : List Heading) (l : Line) (rest : List Token) (t u : Token) (a : Option Refusal) → l.tokens ≡ t ∷ u ∷ rest → is_glyph_token ")" t ≡ true →
+    u.word ≡ word.Name (codes "ERASE") → IsFirstIfAny (IsWrong (IsHeading hs) (names_in l.number rest)) a → IsFirstIfAny (IsErased hs l) a
+erased_here hs l rest t u a e f g h = first_like (IsWrong (IsHeading hs) (names_in l.number rest)) (IsErased hs l) a there back h
+  where
+    there : (r : Refusal) → IsWrong (IsHeading hs) (names_in l.number rest) r → IsErased hs l r
+    there r x = let k = token_named l.number rest x.here x.among in record {
+      close = t;
+      command = u;
+      before = k.before;
+      after = k.after;
+      name_token = k.token;
+      name = x.here.name;
+      split = e ∙ ap (λ v. t ∷ u ∷ v) k.split;
+      closes = f;
+      erases = g;
+      named = k.named;
+      heads = x.wrong;
+      is = x.is ∙ ap (λ (v : Occurrence). refusal cause.NameClass v.line v.column) k.place;
+    }
+    back : (r : Refusal) → IsErased hs l r → IsWrong (IsHeading hs) (names_in l.number rest) r
+    back r x = record {
+      here = record { name = x.name; line = l.number; column = x.name_token.from };
+      among = subst (λ v. IsAmong (names_in l.number v) (record { name = x.name; line = l.number; column = x.name_token.from })) (sym (two_past (sym e ∙ x.split)))
+          (named_token l.number x.before x.name_token x.after x.name x.named);
+      wrong = x.heads;
+      is = x.is;
+    }
+      where
+        two_past : {v w y z : Token} {vs ws : List Token} → v ∷ w ∷ vs ≡ y ∷ z ∷ ws → vs ≡ ws
+        two_past e = cc

@@ -35,13 +35,13 @@ impl NameSet {
         }
     }
 
-    /// Adds a name, and says whether it was not met before.
-    pub(crate) fn add(&mut self, alloc: Global, name: &Name) -> Result<bool, NoMemory>
-        ensures added { IfOk result (λ added. IsTrue added ↔ ¬ (IsAmong self.old name.now)) }
+    /// Whether a name was met before. It is met from now on.
+    pub(crate) fn meet(&mut self, alloc: Global, name: &Name) -> Result<bool, NoMemory>
+        ensures met { IfOk result (λ met. IsTrue met ↔ IsAmong self.old name.now) }
         ensures names { OnOk result ((n : List ℕ) → IsAmong self.new n ↔ ((n ≡ name.now) ⊎ IsAmong self.old n)) }
     {
         let text = String::from_str(alloc, name.as_str())?;
         let added = self.texts.insert(text)?;
-        Ok(added)
+        Ok(!added)
     }
 }

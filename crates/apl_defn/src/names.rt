@@ -49,17 +49,17 @@ fn met_again(
     ensures met { IfOk result (IsFirstIfAny (IsMetAgain names.old (at_most_one place.entry))) }
     ensures names { OnOk result ((n : List ℕ) → IsAmong names.new n ↔ (IsAmong names.old n ⊎ IsNamed (at_most_one place.entry) n)) }
 {
-    let Some(Occurrence { name, line, column }) = place else {
+    let Some(place) = place else {
         return Ok(None);
     };
-    if names.add(alloc, name)? {
-        return Ok(None);
+    if names.meet(alloc, place.name)? {
+        return Ok(Some(Refusal {
+            line: place.line,
+            column: place.column,
+            cause: Cause::DoubleName,
+        }));
     }
-    Ok(Some(Refusal {
-        line,
-        column,
-        cause: Cause::DoubleName,
-    }))
+    Ok(None)
 }
 
 /// The first heading name of a line directly before `←`.
@@ -88,11 +88,11 @@ fn assigned_first(line: u32, tokens: &[Token], lookup: &Lookup) -> Option<Refusa
 fn heading_at(place: Option<Occurrence>, lookup: &Lookup) -> Option<Refusal>
     ensures { IsFirstIfAny (IsWrong (IsHeading lookup.now) (at_most_one place.entry)) result }
 {
-    let Occurrence { name, line, column } = place?;
-    lookup.arguments(name)?;
+    let place = place?;
+    lookup.arguments(place.name)?;
     Some(Refusal {
-        line,
-        column,
+        line: place.line,
+        column: place.column,
         cause: Cause::NameClass,
     })
 }
@@ -167,7 +167,7 @@ pub(crate) fn declared_name(
 fn other_heading(own: &Name, place: Option<Occurrence>, lookup: &Lookup) -> Option<Refusal>
     ensures { IsFirstIfAny (IsWrong (λ n. ¬ (n ≡ own.now) × IsHeading lookup.now n) (at_most_one place.entry)) result }
 {
-    let Occurrence { name, .. } = place?;
+    let name = place?.name;
     if name.is(own) {
         return None;
     }
