@@ -1,6 +1,7 @@
 -- Sets of texts, as the lists of the names that they hold.
 use Rattle.std.proofs.Common.{◌≡◌, ℕ, Bool, true, false, not, IsTrue, List, [], ◌∷◌, map, ◌⊎◌, inl, inr, ◌↔◌, refl, sym, ap, subst, ◌∙◌}
 use Rattle.std.specs.Prelude.{◌||◌}
+use Rattle.std.specs.Bool.{OnFalse}
 use Rattle.std.specs.BTreeSet.{insert_key}
 use Rattle.std.specs.Cmp.Lexicographic.{slice_cmp}
 use Rattle.std.specs.List.{AllByRecursion, IsAmong, list_any}
@@ -114,14 +115,22 @@ module _ {Z : Type 0} (ts : List (String Z)) (t : String Z) (n : List ℕ) (own 
       back (inl f) = subst (λ v. IsAmong (names_of v) m) (sym e) (subst (λ v. IsAmong (names_of (insert_key string_cmp ts t)) v) (own ∙ sym f) (name_comes ts t))
       back (inr k) = subst (λ v. IsAmong (names_of v) m) (sym e) (names_stay ts t m k)
 
-  pub added_met : (added : Bool) → AreTexts ts → IsText t → added ≡ not (list_any (λ u. is_eq (string_cmp t u)) ts) → IsTrue (not added) ↔ IsAmong (names_of ts) n
-  added_met added texts text e = (
-    λ k. subst (λ v. IsAmong (names_of ts) v) own (met_is ts t (twice ∙ k)),
-    λ k. sym twice ∙ is_met ts t texts text (subst (λ v. IsAmong (names_of ts) v) (sym own) k),
+  pub added_new : (added : Bool) → AreTexts ts → IsText t → added ≡ not (list_any (λ u. is_eq (string_cmp t u)) ts) → IsTrue added ↔ ¬ (IsAmong (names_of ts) n)
+  added_new added texts text e = (
+    λ h k. let f = ap not (is_met ts t texts text (subst (λ v. IsAmong (names_of ts) v) (sym own) k)) in false_true (sym (e ∙ f) ∙ h),
+    λ h. e ∙ ap not (by_test (list_any (λ u. is_eq (string_cmp t u)) ts) (λ f. h (subst (λ v. IsAmong (names_of ts) v) own (met_is ts t f)))),
   )
     where
-      not-not : (b : Bool) → not (not b) ≡ b
-      not-not true = refl
-      not-not false = refl
-      twice : list_any (λ u. is_eq (string_cmp t u)) ts ≡ not added
-      twice = sym (not-not (list_any (λ u. is_eq (string_cmp t u)) ts)) ∙ ap not (sym e)
+      false_true : false ≡ true → ⊥
+      false_true e = cc
+      by_test : (b : Bool) → (b ≡ true → ⊥) → b ≡ false
+      by_test true f = absurd (f refl)
+      by_test false f = refl
+
+  pub added_met : (added : Bool) → added ≡ not (list_any (λ u. is_eq (string_cmp t u)) ts) → OnFalse added (IsAmong (names_of ts) n)
+  added_met true e = tt
+  added_met false e = subst (λ v. IsAmong (names_of ts) v) own (met_is ts t (by_test (list_any (λ u. is_eq (string_cmp t u)) ts) (sym e)))
+    where
+      by_test : (b : Bool) → not b ≡ false → b ≡ true
+      by_test true f = refl
+      by_test false f = cc

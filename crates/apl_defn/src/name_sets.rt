@@ -1,4 +1,5 @@
 ghost use Rattle.std.specs.Prelude.{◌≡◌, ◌↔◌, ◌⊎◌, ℕ, List, [], IsTrue, IfOk, OnOk};
+ghost use Rattle.std.specs.Bool.{OnFalse};
 ghost use Rattle.std.specs.List.{IsAmong};
 
 use apl_base::{Name, NoMemory};
@@ -35,13 +36,14 @@ impl NameSet {
         }
     }
 
-    /// Whether a name was met before. It is met from now on.
-    pub(crate) fn meet(&mut self, alloc: Global, name: &Name) -> Result<bool, NoMemory>
-        ensures met { IfOk result (λ met. IsTrue met ↔ IsAmong self.old name.now) }
+    /// Adds a name, and says whether it was not met before.
+    pub(crate) fn add(&mut self, alloc: Global, name: &Name) -> Result<bool, NoMemory>
+        ensures added { IfOk result (λ added. IsTrue added ↔ ¬ (IsAmong self.old name.now)) }
+        ensures met { IfOk result (λ added. OnFalse added (IsAmong self.old name.now)) }
         ensures names { OnOk result ((n : List ℕ) → IsAmong self.new n ↔ ((n ≡ name.now) ⊎ IsAmong self.old n)) }
     {
         let text = String::from_str(alloc, name.as_str())?;
         let added = self.texts.insert(text)?;
-        Ok(!added)
+        Ok(added)
     }
 }

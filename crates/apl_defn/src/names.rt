@@ -52,14 +52,14 @@ fn met_again(
     let Some(place) = place else {
         return Ok(None);
     };
-    if names.meet(alloc, place.name)? {
-        return Ok(Some(Refusal {
-            line: place.line,
-            column: place.column,
-            cause: Cause::DoubleName,
-        }));
+    if names.add(alloc, place.name)? {
+        return Ok(None);
     }
-    Ok(None)
+    Ok(Some(Refusal {
+        line: place.line,
+        column: place.column,
+        cause: Cause::DoubleName,
+    }))
 }
 
 /// The first heading name of a line directly before `←`.
