@@ -1,5 +1,5 @@
 -- Heading names directly before ←, from one place of a line to the next.
-use Rattle.std.proofs.Common.{◌≡◌, ℕ, ◌+◌, ◌-◌, ◌<◌, ◌≤◌, List, [], ◌∷◌, ◌++◌, length, take, drop, Option, None, Some, ◌⊎◌, inl, inr, refl, sym, ap, subst, ◌∙◌, arith, length-append, length-drop}
+use Rattle.std.proofs.Common.{◌≡◌, ℕ, ◌+◌, ◌-◌, ◌<◌, List, ◌∷◌, ◌++◌, length, take, drop, Option, ◌⊎◌, inl, inr, sym, ap, subst, ◌∙◌, arith, length-append, length-drop}
 use Rattle.std.proofs.lemmas.Bool.{cases_lt}
 use Rattle.std.proofs.lemmas.List.{take-append-drop, take_all}
 use Rattle.std.proofs.Math.Seq.{drop-append_seam}
@@ -23,9 +23,6 @@ pub record IsAssignedBelow (hs : List Heading) (n : ℕ) (ts : List Token) (k : 
 pub record IsFirstAssigned (hs : List Heading) (n : ℕ) (ts : List Token) (k : ℕ) (a : Option Refusal) : Type 0 where
   pub first : IsFirstIfAny (IsAssignedBelow hs n ts k) a
 
-pub none_assigned : (hs : List Heading) (n : ℕ) (ts : List Token) → IsFirstAssigned hs n ts 0 None
-none_assigned hs n ts = record { first = λ r x. let l = x.below in omega arith }
-
 pub assigned_more : (hs : List Heading) (n : ℕ) (ts : List Token) (k : ℕ) (a b : Option Refusal) → IsFirstAssigned hs n ts k a →
     IsFirstIfAny (IsAssignedFirst hs n (drop k ts)) b → IsFirstAssigned hs n ts (k + 1) (earlier a b)
 assigned_more hs n ts k a b h g = record {
@@ -36,6 +33,7 @@ assigned_more hs n ts k a b h g = record {
     there : (r : Refusal) → IsAssignedBelow hs n ts k r ⊎ IsAssignedFirst hs n (drop k ts) r → IsAssignedBelow hs n ts (k + 1) r
     there r (inl x) = record { at = x.at; below = (let l = x.below in omega arith); here = x.here }
     there r (inr x) = record { at = k; below = omega arith; here = x }
+
     back : (r : Refusal) → IsAssignedBelow hs n ts (k + 1) r → IsAssignedBelow hs n ts k r ⊎ IsAssignedFirst hs n (drop k ts) r
     back r x = elim (cases_lt x.at k) [
       | inl l ↦ inl (record { at = x.at; below = l; here = x.here })
@@ -58,8 +56,10 @@ assigned_all hs l k a e h = first_like (IsAssignedBelow hs l.number l.tokens k) 
       heads = y.heads;
       is = y.is;
     }
+
     within : (before : List Token) (t : Token) (after : List Token) → l.tokens ≡ before ++ (t ∷ after) → length before < k
     within before t after f = omega (arith, e, ap length f, length-append before (t ∷ after))
+
     back : (r : Refusal) → IsAssigned hs l r → IsAssignedBelow hs l.number l.tokens k r
     back r x = record {
       at = length x.before;

@@ -3,10 +3,8 @@ use Rattle.std.proofs.Common.{◌≡◌, ℕ, Bool, true, false, not, IsTrue, Li
 use Rattle.std.specs.Prelude.{◌||◌}
 use Rattle.std.specs.Bool.{OnFalse}
 use Rattle.std.specs.BTreeSet.{insert_key}
-use Rattle.std.specs.Cmp.Lexicographic.{slice_cmp}
 use Rattle.std.specs.List.{AllByRecursion, IsAmong, list_any}
-use Rattle.std.specs.Ordering.{nat_cmp, is_eq, match_ordering}
-use Rattle.std.specs.declared.cmp.Ordering.{Ordering}
+use Rattle.std.specs.Ordering.{is_eq, match_ordering}
 use Rattle.std.specs.declared.cmp.Ordering.TheVariants.{Less, Equal, Greater}
 use Rattle.std.specs.Str.{chars, encode_utf8_all}
 use Rattle.std.specs.String.{string_bytes, string_cmp}
@@ -47,16 +45,16 @@ pub names_were : {Z : Type 0} (ts : List (String Z)) (t : String Z) (n : List �
 names_were [] t n m = among_cases [] (chars (string_bytes t)) n m
 names_were (u ∷ ts) t n m = elim (string_cmp t u) as (λ o. IsAmong (names_of (match_ordering o (t ∷ u ∷ ts) (u ∷ ts) (u ∷ insert_key string_cmp ts t))) n →
     (n ≡ chars (string_bytes t)) ⊎ IsAmong (names_of (u ∷ ts)) n) [
-  | Less ↦ λ m. among_cases (names_of (u ∷ ts)) (chars (string_bytes t)) n m
-  | Equal ↦ λ m. inr m
-  | Greater ↦ λ m. elim (among_cases (names_of (insert_key string_cmp ts t)) (chars (string_bytes u)) n m) [
-    | inl e ↦ inr (among_here (names_of ts) (chars (string_bytes u)) n e)
-    | inr k ↦ elim (names_were ts t n k) [
-      | inl e ↦ inl e
-      | inr l ↦ inr (among_there (names_of ts) (chars (string_bytes u)) n l)
-    ]
-  ]
-] m
+      | Less ↦ λ m. among_cases (names_of (u ∷ ts)) (chars (string_bytes t)) n m
+      | Equal ↦ λ m. inr m
+      | Greater ↦ λ m. elim (among_cases (names_of (insert_key string_cmp ts t)) (chars (string_bytes u)) n m) [
+        | inl e ↦ inr (among_here (names_of ts) (chars (string_bytes u)) n e)
+        | inr k ↦ elim (names_were ts t n k) [
+          | inl e ↦ inl e
+          | inr l ↦ inr (among_there (names_of ts) (chars (string_bytes u)) n l)
+        ]
+      ]
+    ] m
 
 -- the names that it had stay
 pub names_stay : {Z : Type 0} (ts : List (String Z)) (t : String Z) (n : List ℕ) → IsAmong (names_of ts) n → IsAmong (names_of (insert_key string_cmp ts t)) n
@@ -111,6 +109,7 @@ module _ {Z : Type 0} (ts : List (String Z)) (t : String Z) (n : List ℕ) (own 
     where
       there : IsAmong (names_of us) m → (m ≡ n) ⊎ IsAmong (names_of ts) m
       there k = subst (λ v. (m ≡ v) ⊎ IsAmong (names_of ts) m) own (names_were ts t m (subst (λ v. IsAmong (names_of v) m) e k))
+
       back : (m ≡ n) ⊎ IsAmong (names_of ts) m → IsAmong (names_of us) m
       back (inl f) = subst (λ v. IsAmong (names_of v) m) (sym e) (subst (λ v. IsAmong (names_of (insert_key string_cmp ts t)) v) (own ∙ sym f) (name_comes ts t))
       back (inr k) = subst (λ v. IsAmong (names_of v) m) (sym e) (names_stay ts t m k)
@@ -123,6 +122,7 @@ module _ {Z : Type 0} (ts : List (String Z)) (t : String Z) (n : List ℕ) (own 
     where
       false_true : false ≡ true → ⊥
       false_true e = cc
+
       by_test : (b : Bool) → (b ≡ true → ⊥) → b ≡ false
       by_test true f = absurd (f refl)
       by_test false f = refl

@@ -1,6 +1,6 @@
 -- Names at their places: one place after the other.
-use Rattle.std.proofs.Common.{◌≡◌, ℕ, ◌+◌, ◌<◌, ◌≤◌, true, false, List, [], ◌∷◌, ◌++◌, length, take, drop, get_or, Option, None, Some, ◌⊎◌, inl, inr, ◌↔◌, refl, sym, ap, subst, ◌∙◌, append_assoc, append-nil, arith}
-use Rattle.std.specs.Prelude.{if◌then◌else◌, codes}
+use Rattle.std.proofs.Common.{◌≡◌, ℕ, ◌+◌, ◌<◌, ◌≤◌, true, List, [], ◌∷◌, ◌++◌, length, take, drop, get_or, Option, None, Some, ◌⊎◌, inl, inr, ◌↔◌, refl, sym, ap, subst, ◌∙◌, append_assoc, append-nil, arith}
+use Rattle.std.specs.Prelude.{codes}
 use Rattle.std.specs.List.{IsAmong}
 use Rattle.std.proofs.lemmas.List.{take_more, take_all}
 use Rattle.apl_base.specs.declared.faults.Cause.TheVariants as cause
@@ -17,7 +17,6 @@ use Rattle.apl_defn.specs.Earliest.{earlier}
 use Rattle.apl_defn.specs.NameRules.{IsRepeated, IsHeading, IsErased, IsDeclared}
 use Rattle.apl_defn.specs.Occurrences.{at_most_one, IsNamed, IsWrong, IsMetAgain}
 use Rattle.apl_defn.specs.declared.occurrences.Occurrence as found
-use Rattle.apl_model.specs.Grammar.{arguments_of}
 use Rattle.apl_model.specs.Script.{is_glyph_token}
 use Rattle.apl_defn.specs.Occurrences.{IsAssignedFirst}
 
@@ -47,9 +46,9 @@ names_more : (n : ℕ) (xs ys : List Token) → names_in n (xs ++ ys) ≡ names_
 names_more n [] ys = refl
 names_more n (t ∷ xs) ys = elim (t.word) as (λ w. (let r : List Occurrence = (elim w [ word.Name name ↦ record { name = name; line = n; column = t.from } ∷ names_in n (xs ++ ys) | _ ↦ names_in n (xs ++ ys) ]) in r)
     ≡ (let r : List Occurrence = (elim w [ word.Name name ↦ record { name = name; line = n; column = t.from } ∷ names_in n xs | _ ↦ names_in n xs ]) in r) ++ names_in n ys) [
-  | word.Name name ↦ ap (λ (os : List Occurrence). record { name = name; line = n; column = t.from } ∷ os) (names_more n xs ys)
-  | _ ↦ names_more n xs ys
-]
+      | word.Name name ↦ ap (λ (os : List Occurrence). record { name = name; line = n; column = t.from } ∷ os) (names_more n xs ys)
+      | _ ↦ names_more n xs ys
+    ]
 
 -- the names of one token more
 pub names_step : (n : ℕ) (ts : List Token) (i : ℕ) (t : Token) → i < length ts → t ≡ get_or ts i t →
@@ -78,10 +77,7 @@ declared_all top ls i h = ap (λ v. names_in top.number top.tokens ++ labels_in 
 -- ---- Wrong names ----
 
 module _ (Kind : List ℕ → Type 0) where
-  pub wrong_none : IsFirstIfAny (IsWrong Kind []) None
-  wrong_none r h = among_none h.here h.among
-
-  pub wrong_more : (os qs : List Occurrence) (a b : Option Refusal) → IsFirstIfAny (IsWrong Kind os) a → IsFirstIfAny (IsWrong Kind qs) b →
+  wrong_more : (os qs : List Occurrence) (a b : Option Refusal) → IsFirstIfAny (IsWrong Kind os) a → IsFirstIfAny (IsWrong Kind qs) b →
       IsFirstIfAny (IsWrong Kind (os ++ qs)) (earlier a b)
   wrong_more os qs a b h k = first_like (λ r. IsWrong Kind os r ⊎ IsWrong Kind qs r) (IsWrong Kind (os ++ qs)) (earlier a b) there back
       (earlier_first (IsWrong Kind os) (IsWrong Kind qs) a b h k)
@@ -89,6 +85,7 @@ module _ (Kind : List ℕ → Type 0) where
       there : (r : Refusal) → IsWrong Kind os r ⊎ IsWrong Kind qs r → IsWrong Kind (os ++ qs) r
       there r (inl x) = record { here = x.here; among = among_first os qs x.here x.among; wrong = x.wrong; is = x.is }
       there r (inr x) = record { here = x.here; among = among_second os qs x.here x.among; wrong = x.wrong; is = x.is }
+
       back : (r : Refusal) → IsWrong Kind (os ++ qs) r → IsWrong Kind os r ⊎ IsWrong Kind qs r
       back r x = elim (among_either os qs x.here x.among) [
         | inl m ↦ inl (record { here = x.here; among = m; wrong = x.wrong; is = x.is })
@@ -98,9 +95,6 @@ module _ (Kind : List ℕ → Type 0) where
 -- the first wrong name so far
 pub record IsFirstWrong (Kind : List ℕ → Type 0) (os : List Occurrence) (a : Option Refusal) : Type 0 where
   pub first : IsFirstIfAny (IsWrong Kind os) a
-
-pub none_wrong : (Kind : List ℕ → Type 0) → IsFirstWrong Kind [] None
-none_wrong Kind = record { first = wrong_none Kind }
 
 pub one_more : (Kind : List ℕ → Type 0) (os qs us ws : List Occurrence) (a b : Option Refusal) → us ≡ os ++ qs → ws ≡ qs → IsFirstWrong Kind os a →
     IsFirstIfAny (IsWrong Kind ws) b → IsFirstWrong Kind us (earlier a b)
@@ -139,12 +133,6 @@ pub record IsFirstAgain (os : List Occurrence) (ns : List (List ℕ)) (a : Optio
 nothing_before : {A : Type 0} (before after : List A) (x : A) → [] ≡ before ++ (x ∷ after) → ⊥
 nothing_before [] after x e = cc
 nothing_before (b ∷ before) after x e = cc
-
-pub none_again : IsFirstAgain [] [] None
-none_again = record {
-  names = λ n. (λ m. absurd (among_none n m), λ x. absurd (among_none x.place x.among));
-  first = λ r x. nothing_before x.before x.after x.here x.split;
-}
 
 -- a place in a list with one more at its end is a place of the list, or the new one
 last_or_not : {A : Type 0} (xs : List A) (y : A) (before after : List A) (x : A) → xs ++ (y ∷ []) ≡ before ++ (x ∷ after) →
@@ -224,6 +212,7 @@ module _ (os : List Occurrence) (ns : List (List ℕ)) (same : (n : List ℕ) �
         | inl k ↦ (let x = (same n).0 k in record { place = x.place; among = among_first os qs x.place x.among; same = x.same })
         | inr x ↦ record { place = x.place; among = among_second os qs x.place x.among; same = x.same }
       ]
+
       back : IsNamed (os ++ qs) n → IsAmong ms n
       back x = (h n).1 (elim (among_either os qs x.place x.among) [
         | inl k ↦ inl ((same n).1 (record { place = x.place; among = k; same = x.same }))
@@ -259,15 +248,13 @@ names_of_one o n old new h = (there, back)
   where
     there : IsAmong new n → IsAmong old n ⊎ IsNamed (o ∷ []) n
     there m = elim (h.0 m) [ inl e ↦ inr (record { place = o; among = among_here [] o o refl; same = sym e }) | inr k ↦ inl k ]
+
     back : IsAmong old n ⊎ IsNamed (o ∷ []) n → IsAmong new n
     back (inl k) = h.1 (inr k)
     back (inr x) = h.1 (elim (among_cases [] o x.place x.among) [
       | inl e ↦ inl (sym x.same ∙ ap (λ (v : Occurrence). v.name) e)
       | inr k ↦ absurd (among_none x.place k)
     ])
-
-pub names_of_none : (n : List ℕ) (old : List (List ℕ)) → IsAmong old n ↔ (IsAmong old n ⊎ IsNamed [] n)
-names_of_none n old = (λ m. inl m, λ x. elim x [ inl m ↦ m | inr y ↦ absurd (among_none y.place y.among) ])
 
 -- what is refused at one place: a name that was met, and a heading name
 pub met_first : (o : Occurrence) (ns : List (List ℕ)) → IsAmong ns o.name → IsFirstIfAny (IsMetAgain ns (o ∷ [])) (Some (refusal cause.DoubleName o.line o.column))
@@ -277,12 +264,6 @@ met_first o ns m = only_first (IsMetAgain ns (o ∷ [])) (refusal cause.DoubleNa
       | inl e ↦ x.is ∙ ap (λ (v : Occurrence). refusal cause.DoubleName v.line v.column) e
       | inr k ↦ absurd (among_none x.here k)
     ])
-
-pub unmet_first : (o : Occurrence) (ns : List (List ℕ)) → ¬ (IsAmong ns o.name) → IsFirstIfAny (IsMetAgain ns (o ∷ [])) None
-unmet_first o ns m r x = elim (among_cases [] o x.here x.among) [
-  | inl e ↦ m (subst (λ (v : Occurrence). IsAmong ns v.name) e x.met)
-  | inr k ↦ among_none x.here k
-]
 
 pub wrong_first : (Kind : List ℕ → Type 0) (o : Occurrence) → Kind o.name → IsFirstIfAny (IsWrong Kind (o ∷ [])) (Some (refusal cause.NameClass o.line o.column))
 wrong_first Kind o h = only_first (IsWrong Kind (o ∷ [])) (refusal cause.NameClass o.line o.column)
@@ -315,9 +296,9 @@ wrong_alike Kind Other o a f g h = first_like (IsWrong Kind (o ∷ [])) (IsWrong
 pub name_of_token : (n : ℕ) (t : Token) (o : Occurrence) → IsAmong (names_in n (t ∷ [])) o → (name : List ℕ) × (t.word ≡ word.Name name) × (o ≡ record { name = name; line = n; column = t.from })
 name_of_token n t o m = elim (t.word) as (λ w. t.word ≡ w → IsAmong (let r : List Occurrence = (elim w [ word.Name name ↦ record { name = name; line = n; column = t.from } ∷ [] | _ ↦ [] ]) in r) o →
     (name : List ℕ) × (t.word ≡ word.Name name) × (o ≡ record { name = name; line = n; column = t.from })) [
-  | word.Name name ↦ λ e k. elim (among_cases [] (record { name = name; line = n; column = t.from }) o k) [ inl f ↦ (name, e, f) | inr l ↦ absurd (among_none o l) ]
-  | _ ↦ λ e k. absurd (among_none o k)
-] refl m
+      | word.Name name ↦ λ e k. elim (among_cases [] (record { name = name; line = n; column = t.from }) o k) [ inl f ↦ (name, e, f) | inr l ↦ absurd (among_none o l) ]
+      | _ ↦ λ e k. absurd (among_none o k)
+    ] refl m
 
 pub token_of_name : (n : ℕ) (t : Token) (name : List ℕ) → t.word ≡ word.Name name → IsAmong (names_in n (t ∷ [])) (record { name = name; line = n; column = t.from })
 token_of_name n t name e = rw e (among_here [] (record { name = name; line = n; column = t.from }) (record { name = name; line = n; column = t.from }) refl)
@@ -380,6 +361,7 @@ assigned_here hs n ts rest t u a e g h = first_like (IsWrong (IsHeading hs) (nam
       heads = subst (λ (v : Occurrence). IsHeading hs v.name) k.2 x.wrong;
       is = x.is ∙ ap (λ (v : Occurrence). refusal cause.NameClass v.line v.column) k.2;
     }
+
     back : (r : Refusal) → IsAssignedFirst hs n ts r → IsWrong (IsHeading hs) (names_in n (t ∷ [])) r
     back r x =
         let s : t ≡ x.name_token = first_same (sym e ∙ x.split) in
@@ -413,6 +395,7 @@ erased_here hs l rest t u a e f g h = first_like (IsWrong (IsHeading hs) (names_
       heads = x.wrong;
       is = x.is ∙ ap (λ (v : Occurrence). refusal cause.NameClass v.line v.column) k.place;
     }
+
     back : (r : Refusal) → IsErased hs l r → IsWrong (IsHeading hs) (names_in l.number rest) r
     back r x = record {
       here = record { name = x.name; line = l.number; column = x.name_token.from };

@@ -9,7 +9,7 @@ ghost use Rattle.apl_defn.specs.Occurrences.{at_most_one, IsNamed, IsWrong, IsMe
 
 use crate::earliest::earlier;
 use crate::name_sets::NameSet;
-use crate::occurrences::{label_of, name_at, Occurrence};
+use crate::occurrences::{Occurrence, label_of, name_at};
 use apl_base::{Cause, Name, NoMemory, Refusal};
 use apl_model::{Line, Token, Word};
 use apl_tree::Lookup;
@@ -155,7 +155,10 @@ pub(crate) fn declared_name(
 {
     let mut found = None;
     for token in first.tokens.as_slice() {
-        found = earlier(found, other_heading(own, name_at(first.number, token), lookup));
+        found = earlier(
+            found,
+            other_heading(own, name_at(first.number, token), lookup),
+        );
     }
     for line in body {
         found = earlier(found, other_heading(own, label_of(line), lookup));

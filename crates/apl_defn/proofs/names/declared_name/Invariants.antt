@@ -1,4 +1,4 @@
-use Rattle.std.proofs.Common.{◌≡◌, ℕ, List, ◌++◌, take}
+use Rattle.std.proofs.Common.{◌≡◌, ◌++◌, take}
 use Rattle.apl_model.specs.Refusal.{names_in, labels_in}
 use Rattle.apl_defn.proofs.PlaceLemmas.{IsFirstWrong}
 use Rattle.apl_defn.specs.NameRules.{IsHeading}

@@ -1,5 +1,3 @@
-use Rattle.std.proofs.Common.{◌≡◌, ◌≤◌, drop}
-use Rattle.apl_model.specs.Refusal.{too_deep}
 use Rattle.apl_defn.proofs.DepthLemmas.{IsShallow}
 use Rattle.apl_defn.proofs.names.deep_token.Given as goal
 

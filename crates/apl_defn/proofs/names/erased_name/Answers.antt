@@ -1,4 +1,4 @@
-use Rattle.std.proofs.Common.{◌≡◌, List, ◌∷◌, drop, sym, subst, ◌∙◌}
+use Rattle.std.proofs.Common.{List, drop, sym, subst, ◌∙◌}
 use Rattle.apl_model.specs.Refusal.{names_in}
 use Rattle.apl_model.specs.declared.tokens.Token.{Token}
 use Rattle.apl_read.specs.Refusals.{IsFirstIfAny}

@@ -1,7 +1,7 @@
-use Rattle.std.proofs.Common.{◌≡◌, ◌+◌, ◌<◌, ◌≤◌, ℕ, List, [], ◌∷◌, length, take, ap, arith}
+use Rattle.std.proofs.Common.{◌+◌, ◌<◌, ◌≤◌, [], ◌∷◌, length, take, ap, arith}
 use Rattle.std.proofs.lemmas.List.{take_all}
 use Rattle.apl_model.specs.Refusal.{names_in}
-use Rattle.apl_defn.proofs.PlaceLemmas.{IsFirstWrong, one_more, names_step, wrong_along}
+use Rattle.apl_defn.proofs.PlaceLemmas.{one_more, names_step, wrong_along}
 use Rattle.apl_defn.specs.NameRules.{IsHeading}
 use Rattle.apl_defn.specs.Occurrences.{at_most_one}
 use Rattle.apl_defn.proofs.names.heading_among.Goals as goal

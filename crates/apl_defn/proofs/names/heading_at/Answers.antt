@@ -1,4 +1,4 @@
-use Rattle.std.proofs.Common.{◌≡◌, Some, sym, ap, ◌∙◌}
+use Rattle.std.proofs.Common.{sym, ap, ◌∙◌}
 use Rattle.apl_model.specs.Refusal.{Occurrence}
 use Rattle.std.specs.Option.{is_some}
 use Rattle.apl_defn.proofs.PlaceLemmas.{wrong_first}

@@ -1,7 +1,5 @@
-use Rattle.std.proofs.Common.{◌≡◌, ℕ, List, ◌↔◌, ◌⊎◌, true, false}
-use Rattle.std.specs.List.{IsAmong}
 use Rattle.apl_model.specs.Refusal.{Occurrence}
-use Rattle.apl_defn.proofs.PlaceLemmas.{met_first, unmet_first, names_of_one}
+use Rattle.apl_defn.proofs.PlaceLemmas.{met_first, names_of_one}
 use Rattle.apl_defn.proofs.names.met_again.Goals as goal
 
 pub returns-then-branch-clause-names : goal.returns-then-branch-clause-names

@@ -1,4 +1,4 @@
-use Rattle.std.proofs.Common.{◌≡◌, ◌+◌, ◌<◌, ◌≤◌, ℕ, List, [], ◌∷◌, ◌++◌, length, take, get_or, ap, subst, arith}
+use Rattle.std.proofs.Common.{◌≡◌, ◌+◌, ◌<◌, ◌≤◌, List, [], ◌∷◌, ◌++◌, length, take, get_or, ap, subst, arith}
 use Rattle.apl_model.specs.Refusal.{Occurrence, names_in, label_in, labels_in, declared_in}
 use Rattle.apl_model.specs.declared.tokens.Token.{Token}
 use Rattle.apl_defn.proofs.PlaceLemmas.{again_more, again_along, names_step, labels_step, names_all, declared_all, repeated_first}
