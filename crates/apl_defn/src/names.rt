@@ -19,7 +19,7 @@ use std::alloc::Global;
 const MOST_OPEN: u32 = 64;
 
 /// The first name that a definition with this first line and body declares a second time. It takes time in proportion
-/// to the tokens.
+/// to the tokens, times a logarithm.
 pub(crate) fn repeated_name(
     alloc: Global,
     first: &Line,
