@@ -7,3 +7,8 @@ pub mod HeaderReads
 pub mod LineWords
 pub mod PlainMarks
 pub mod Readers
+pub mod AssignedLemmas
+pub mod DepthLemmas
+pub mod EarlierLemmas
+pub mod NameSetLemmas
+pub mod PlaceLemmas

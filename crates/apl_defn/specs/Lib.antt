@@ -4,3 +4,4 @@ pub mod NameRules
 pub mod LineStart
 pub mod HeaderSteps
 pub mod CommandSteps
+pub mod Occurrences

@@ -5,7 +5,9 @@ mod commands;
 mod earliest;
 mod headers;
 mod line_faults;
+mod name_sets;
 mod names;
+mod occurrences;
 mod scripts;
 mod statement_lines;
 
