@@ -1,1 +1,2 @@
 pub mod EarlierLemmas
+pub mod PartLemmas

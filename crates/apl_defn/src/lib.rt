@@ -6,6 +6,7 @@ mod earliest;
 mod headers;
 mod line_faults;
 mod names;
+mod parts;
 mod scripts;
 mod statement_lines;
 
