@@ -1,2 +1,3 @@
 pub mod EarlierLemmas
 pub mod PartLemmas
+pub mod PhaseLemmas

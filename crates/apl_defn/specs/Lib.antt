@@ -1,3 +1,4 @@
+pub mod PartRefusals
 pub mod Parts
 pub mod Reading
 pub mod Earliest
