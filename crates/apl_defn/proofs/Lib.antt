@@ -1,3 +1,4 @@
 pub mod EarlierLemmas
+pub mod OrderLemmas
 pub mod PartLemmas
 pub mod PhaseLemmas

@@ -11,12 +11,12 @@ use Rattle.apl_model.specs.declared.tokens.Line.{Line}
 use Rattle.apl_model.specs.declared.tokens.Token.{Token}
 use Rattle.apl_defn.specs.NameRules.{IsRepeated, IsAssigned, IsErased, IsDeclared, IsTooDeep}
 
--- a refusal of some of these lines
-abbrev pub OfSomeLine : (Line → Refusal → Type 0) → List Line → Refusal → Type 0
-OfSomeLine Refuses ls r = (l : Line) × IsAmong ls l × Refuses l r
+-- a refusal of some of these lines or parts
+abbrev pub OfSome : {A : Type 0} → (A → Refusal → Type 0) → List A → Refusal → Type 0
+OfSome {A} Refuses xs r = (x : A) × IsAmong xs x × Refuses x r
 
--- a refusal of some of these parts, which may depend on the parts before it
-pub record OfSomePart (Refuses : List Part → Part → Refusal → Type 0) (ps : List Part) (r : Refusal) : Type 0 where
+-- a refusal of some of these parts, which depends on the parts before it
+pub record AfterOthers (Refuses : List Part → Part → Refusal → Type 0) (ps : List Part) (r : Refusal) : Type 0 where
   pub before : List Part
   pub part : Part
   pub after : List Part
@@ -72,7 +72,7 @@ pub record IsNeverClosed (first : Line) (last : Option Line) (r : Refusal) : Typ
 abbrev pub IsFormRefusal : List Part → Part → Refusal → Type 0
 IsFormRefusal before (alone l) r = IsLone l r
 IsFormRefusal before (defined first body last) r =
-    IsNoHeader first r ⊎ OfSomeLine IsNested body r ⊎ IsSecondHeading before first r ⊎ IsDeclaredTwice first body r ⊎ IsNeverClosed first last r
+    IsNoHeader first r ⊎ OfSome IsNested body r ⊎ IsSecondHeading before first r ⊎ IsDeclaredTwice first body r ⊎ IsNeverClosed first last r
 
 -- ---- Names that are functions', depth and grammar ----
 
@@ -99,4 +99,4 @@ pub record IsDeclaredElsewhere (hs : List Heading) (first : Line) (body : List L
 -- a part is refused for a name, its depth or its grammar, over these headings
 abbrev pub IsUseRefusal : List Heading → Part → Refusal → Type 0
 IsUseRefusal hs (alone l) r = IsOutsideRefusal hs l r
-IsUseRefusal hs (defined first body last) r = IsDeclaredElsewhere hs first body r ⊎ OfSomeLine (IsBodyRefusal hs) body r
+IsUseRefusal hs (defined first body last) r = IsDeclaredElsewhere hs first body r ⊎ OfSome (IsBodyRefusal hs) body r
