@@ -3,3 +3,4 @@ pub mod Parts
 pub mod Reading
 pub mod Earliest
 pub mod NameRules
+pub mod Occurrences

@@ -5,8 +5,10 @@ mod commands;
 mod earliest;
 mod headers;
 mod line_faults;
+mod name_sets;
 mod names;
 mod parts;
+mod occurrences;
 mod scripts;
 mod statement_lines;
 
