@@ -1,4 +1,5 @@
 pub mod EarlierLemmas
+pub mod FormLemmas
 pub mod NameSetLemmas
 pub mod OrderLemmas
 pub mod PartLemmas

@@ -1,8 +1,9 @@
 -- The refusals of all parts of a script are those of its lines.
-use Rattle.std.proofs.Common.{◌≡◌, ℕ, Bool, true, false, List, [], ◌∷◌, ◌++◌, Option, None, Some, ◌⊎◌, inl, inr, ◌↔◌, refl, sym, ap, subst, ◌∙◌, arith, append_assoc}
+use Rattle.std.proofs.Common.{◌≡◌, ℕ, ◌+◌, ◌<◌, ◌≤◌, Bool, true, false, List, [], ◌∷◌, ◌++◌, length, take, get_or, Option, None, Some, ◌⊎◌, inl, inr, ◌↔◌, refl, sym, ap, subst, ◌∙◌, arith, append_assoc}
 use Rattle.std.specs.List.{IsAmong}
 use Rattle.std.specs.Prelude.{if◌then◌else◌}
 use Rattle.std.specs.Option.{IsSome}
+use Rattle.std.proofs.lemmas.List.{take_more, take_all}
 use lib.Pointwise.{bytes_decides}
 use Rattle.apl_base.specs.declared.faults.Refusal.{Refusal}
 use Rattle.apl_model.proofs.Accepted.{among_here, among_there, among_cases, among_none}
@@ -92,6 +93,15 @@ module _ {A : Type 0} (P : A → Refusal → Type 0) where
       IsFirstIfAny (OfSome P (xs ++ (x ∷ []))) (earlier a b)
   first_more xs x a b h k = first_like (λ r. OfSome P xs r ⊎ P x r) (OfSome P (xs ++ (x ∷ []))) (earlier a b) (some_more xs x) (some_was xs x)
       (earlier_first (OfSome P xs) (P x) a b h k)
+
+  -- the same by the place of an element
+  pub first_at : (xs : List A) (k : ℕ) (x : A) (a b : Option Refusal) → k < length xs → x ≡ get_or xs k x → IsFirstIfAny (OfSome P (take k xs)) a → IsFirstIfAny (P x) b →
+      IsFirstIfAny (OfSome P (take (k + 1) xs)) (earlier a b)
+  first_at xs k x a b l e h i = subst (λ v. IsFirstIfAny (OfSome P v) (earlier a b)) (sym (take_more xs k x l ∙ ap (λ v. take k xs ++ (v ∷ [])) (sym e)))
+      (first_more (take k xs) x a b h i)
+
+  pub first_of_all : (xs : List A) (k : ℕ) (a : Option Refusal) → length xs ≤ k → IsFirstIfAny (OfSome P (take k xs)) a → IsFirstIfAny (OfSome P xs) a
+  first_of_all xs k a l h = subst (λ v. IsFirstIfAny (OfSome P v) a) (take_all k xs l) h
 
 -- ---- The names that head definitions ----
 

@@ -1,5 +1,6 @@
 pub mod PartRefusals
 pub mod Parts
+pub mod Passes
 pub mod Reading
 pub mod Earliest
 pub mod NameRules

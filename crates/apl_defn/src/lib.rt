@@ -3,6 +3,7 @@
 
 mod commands;
 mod earliest;
+mod forms;
 mod headers;
 mod line_faults;
 mod name_sets;

@@ -18,6 +18,7 @@ pub(crate) enum Part<'a> {
 }
 
 /// The parts of a script that are left.
+#[derive(Drop)]
 pub(crate) struct Parts<'a> {
     rest: &'a [Line],
 }
