@@ -1,12 +1,12 @@
 -- What the first pass finds, with one part more.
-use Rattle.std.proofs.Common.{◌≡◌, ℕ, true, false, Bool, List, [], ◌∷◌, ◌++◌, map, Option, None, Some, ◌⊎◌, inl, inr, ◌↔◌, refl, sym, ap, subst, ◌∙◌, arith}
+use Rattle.std.proofs.Common.{◌≡◌, ℕ, true, false, Bool, List, [], ◌∷◌, ◌++◌, map, Option, None, Some, ◌⊎◌, inl, inr, ◌↔◌, refl, sym, ap, subst, ◌∙◌, arith, append_assoc, append-nil}
 use Rattle.std.specs.Prelude.{slice_get, if◌then◌else◌}
 use Rattle.std.specs.List.{IsAmong}
 use lib.Pointwise.{bytes_decides}
 use Rattle.apl_base.specs.declared.faults.Cause.TheVariants as cause
 use Rattle.apl_base.specs.declared.faults.Refusal.{Refusal}
-use Rattle.apl_model.proofs.Accepted.{among_here, among_there, among_cases, among_none, no_stop}
-use Rattle.apl_model.proofs.Rows.{one_stop}
+use Rattle.apl_model.proofs.Accepted.{among_here, among_there, among_cases, among_none, no_stop, part_from}
+use Rattle.apl_model.proofs.Rows.{one_stop, before_after}
 use Rattle.apl_model.proofs.Unique.{one_header}
 use Rattle.apl_model.specs.Environment.{is_same_name}
 use Rattle.apl_model.specs.Refusal.{refusal, first_line, StopsAt, IsDefined, Heads, before_own_name, IsFirst, order}
@@ -20,7 +20,7 @@ use Rattle.apl_defn.proofs.PhaseLemmas.{first_part_more, no_part, among_split, s
 use Rattle.apl_defn.specs.Earliest.{earlier, is_not_after}
 use Rattle.apl_defn.specs.NameRules.{IsRepeated}
 use Rattle.apl_defn.specs.PartRefusals.{OfSome, AfterOthers, IsLone, IsNoHeader, IsNested, IsSecondHeading, IsDeclaredTwice, IsNeverClosed, IsFormRefusal}
-use Rattle.apl_defn.specs.Passes.{AreHeaders, AreForms}
+use Rattle.apl_defn.specs.Passes.{IsReadPart, AreHeaders, AreForms}
 use Rattle.apl_defn.specs.Reading.{IsReadLine}
 use Rattle.apl_defn.specs.declared.forms.Forms.{Forms}
 
@@ -150,11 +150,16 @@ neither (Some r) (Some s) e = elim (is_not_after (order r) (order s)) as (λ t. 
   | false ↦ λ f. cc
 ] e
 
-module _ (ps : List Part) (top : Line) (body : List Line) (last : Option Line) (read : IsReadLine top) where
+module _ (top : Line) (read : IsReadLine top) where
   -- a first line with a header stops nowhere
   head_stops : (h : Header) (r : Refusal) → IsHeadOf top h → IsNoHeader top r → ⊥
   head_stops h r i x = no_stop first_line [] top.number top.text top.tokens read.tokens x.column (h, i.header, i.spells) x.stops
 
+  -- one that stops has none
+  pub no_head : (k : ℕ) → StopsAt first_line [] top.number top.tokens k → (h : Header) → IsHeadOf top h → ⊥
+  no_head k x h i = head_stops h (refusal cause.Header top.number k) i (record { column = k; stops = x; is = refl })
+
+module _ (ps : List Part) (top : Line) (body : List Line) (last : Option Line) (read : IsReadLine top) where
   -- the first refusal of the form of a definition with a header
   pub headed_form : (h : Header) (n o r s : Option Refusal) → IsHeadOf top h → IsFirstIfAny (OfSome IsNested body) n → IsFirstIfAny (IsNeverClosed top last) o →
       IsFirstIfAny (IsRepeated top body) r → IsFirstIfAny (IsSecondHeading ps top) s → IsFirstIfAny (IsFormRefusal ps (defined top body last)) (earlier (earlier n o) (earlier r s))
@@ -170,7 +175,7 @@ module _ (ps : List Part) (top : Line) (body : List Line) (last : Option Line) (
       to v (inr (inl x)) = inr (inr (inr (inl (record { header = h; head = i; repeated = x }))))
       to v (inr (inr x)) = inr (inr (inl x))
       from : (v : Refusal) → IsFormRefusal ps (defined top body last) v → (OfSome IsNested body v ⊎ IsNeverClosed top last v) ⊎ (IsRepeated top body v ⊎ IsSecondHeading ps top v)
-      from v (inl x) = absurd (head_stops h v i x)
+      from v (inl x) = absurd (head_stops top read h v i x)
       from v (inr (inl x)) = inl (inl x)
       from v (inr (inr (inl x))) = inr (inr x)
       from v (inr (inr (inr (inl x)))) = inr (inl x.repeated)
@@ -192,13 +197,11 @@ module _ (ps : List Part) (top : Line) (body : List Line) (last : Option Line) (
       to v (inl (inl x)) = inr (inl x)
       to v (inl (inr x)) = inr (inr (inr (inr x)))
       to v (inr x) = inl x
-      none : (h : Header) → IsHeadOf top h → ⊥
-      none h i = head_stops h (refusal cause.Header top.number k) i (record { column = k; stops = stops; is = refl })
       from : (v : Refusal) → IsFormRefusal ps (defined top body last) v → (OfSome IsNested body v ⊎ IsNeverClosed top last v) ⊎ IsNoHeader top v
       from v (inl x) = inr x
       from v (inr (inl x)) = inl (inl x)
-      from v (inr (inr (inl x))) = absurd (none x.header x.head)
-      from v (inr (inr (inr (inl x)))) = absurd (none x.header x.head)
+      from v (inr (inr (inl x))) = absurd (no_head top read k stops x.header x.head)
+      from v (inr (inr (inr (inl x)))) = absurd (no_head top read k stops x.header x.head)
       from v (inr (inr (inr (inr x)))) = inl (inr x)
 
 -- ---- What is found after one part more ----
@@ -267,3 +270,33 @@ forms_stopped ps top body last f g b r none e n first a = record {
   where
     is_some : Some r ≡ None → ⊥
     is_some x = cc
+
+-- ---- Over the parts of a script ----
+
+-- when these lines are left
+pub record FormsSoFar (ls rest : List Line) (f : Forms) : Type 0 where
+  pub done : List Part
+  pub split : parts ls ≡ done ++ parts rest
+  pub found : AreForms done f
+
+pub forms_begin : (ls rest : List Line) (f : Forms) → rest ≡ ls → AreForms [] f → FormsSoFar ls rest f
+forms_begin ls rest f e a = record { done = []; split = sym (ap parts e); found = a }
+
+pub forms_next : (ls rest more : List Line) (p : Part) (f g : Forms) → parts rest ≡ p ∷ parts more → FormsSoFar ls rest f →
+    ((ps : List Part) → AreForms ps f → AreForms (ps ++ (p ∷ [])) g) → FormsSoFar ls more g
+forms_next ls rest more p f g e s step = record {
+  done = s.done ++ (p ∷ []);
+  split = s.split ∙ ap (λ v. s.done ++ v) e ∙ sym (append_assoc s.done (p ∷ []) (parts more));
+  found = step s.done s.found;
+}
+
+pub forms_end : (ls rest : List Line) (f : Forms) → parts rest ≡ [] → FormsSoFar ls rest f → AreForms (parts ls) f
+forms_end ls rest f e s = subst (λ v. AreForms v f) (sym (s.split ∙ ap (λ v. s.done ++ v) e ∙ append-nil s.done)) s.found
+
+-- a part of read lines is read
+pub read_part : (ls : List Line) (p : Part) → ((l : Line) → IsAmong ls l → IsReadLine l) → IsAmong (parts ls) p → IsReadPart p
+read_part ls (alone l) read m = read l (part_from ls (alone l) m)
+read_part ls (defined top body last) read m = let f = part_from ls (defined top body last) m in (read top f.0, f.1, λ l k. read l (f.2 l k))
+
+pub next_part : (ls rest more : List Line) (p : Part) (f : Forms) → parts rest ≡ p ∷ parts more → FormsSoFar ls rest f → IsAmong (parts ls) p
+next_part ls rest more p f e s = subst (λ v. IsAmong v p) (sym (s.split ∙ ap (λ v. s.done ++ v) e)) (before_after s.done (parts more) p)
