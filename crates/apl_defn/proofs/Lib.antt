@@ -4,3 +4,4 @@ pub mod NameSetLemmas
 pub mod OrderLemmas
 pub mod PartLemmas
 pub mod PhaseLemmas
+pub mod UseLemmas

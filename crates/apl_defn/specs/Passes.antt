@@ -11,6 +11,8 @@ use Rattle.apl_read.specs.Refusals.{IsFirstIfAny}
 use Rattle.apl_defn.specs.PartRefusals.{OfSome, AfterOthers, IsFormRefusal, IsBodyRefusal, IsUseRefusal}
 use Rattle.apl_defn.specs.Reading.{IsReadLine}
 use Rattle.apl_defn.specs.declared.forms.Forms.{Forms}
+use Rattle.apl_defn.specs.declared.uses.Body.{Body}
+use Rattle.apl_defn.specs.declared.uses.Uses.{Uses}
 
 -- the lines of a part are read, and the first line of a definition opens one
 abbrev pub IsReadPart : Part → Type 0
@@ -30,3 +32,13 @@ pub record AreForms (ps : List Part) (f : Forms) : Type 0 where
   pub earliest : IsFirstIfAny (AfterOthers IsFormRefusal ps) f.earliest
   pub headers : f.earliest ≡ None → AreHeaders ps f.headers.items
   pub headed : (n : List ℕ) → IsAmong f.headed n ↔ Heads ps n
+
+-- after these lines of a body: the first refusal, and the lines as they are read where there is none
+pub record IsBody (hs : List Heading) (ls : List Line) (b : Body) : Type 0 where
+  pub earliest : IsFirstIfAny (OfSome (IsBodyRefusal hs) ls) b.earliest
+  pub lines : b.earliest ≡ None → AllZip (IsBodyLine hs) ls (map body_line_of b.lines.items)
+
+-- after these parts: the first refusal of a use, and the items where there is none
+pub record AreUses (hs : List Heading) (ps : List Part) (u : Uses) : Type 0 where
+  pub earliest : IsFirstIfAny (OfSome (IsUseRefusal hs) ps) u.earliest
+  pub items : u.earliest ≡ None → AllZip (IsItem hs) ps (map item_of u.items.items)

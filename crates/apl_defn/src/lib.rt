@@ -12,5 +12,6 @@ mod parts;
 mod occurrences;
 mod scripts;
 mod statement_lines;
+mod uses;
 
 pub use scripts::{script, script_of_bytes};
