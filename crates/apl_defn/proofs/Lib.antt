@@ -4,4 +4,5 @@ pub mod NameSetLemmas
 pub mod OrderLemmas
 pub mod PartLemmas
 pub mod PhaseLemmas
+pub mod ScriptLemmas
 pub mod UseLemmas

@@ -1,7 +1,9 @@
 //! Reads the lines of a script as definitions, commands and statements: its items, or its first refusal.
 #![tactic(auto)]
 
+mod classes;
 mod commands;
+mod copies;
 mod earliest;
 mod forms;
 mod headers;

@@ -492,3 +492,10 @@ module _ (bytes : List ℕ) (none : (r : Refusal) → IsReadingRefusal bytes r �
     sound = sound_pieces (pieces l.text) (λ p c mp e. none (refusal c l.number p.from) (at_fault l p c m mp e refl));
     same = own_tokens 1 (texts_of bytes) l m;
   }
+
+-- each such refusal comes in the first phase
+pub reading_phase : (bytes : List ℕ) (r : Refusal) → IsReadingRefusal bytes r → phase r.cause ≡ 1
+reading_phase bytes r h = elim (into_lines bytes r h) [
+  | inl (short, e) ↦ ap (λ (v : Refusal). phase v.cause) e
+  | inr there ↦ ap (λ (v : Refusal). phase v.cause) there.same ∙ (fails_known there.line.text there.fault there.fails).phase
+]

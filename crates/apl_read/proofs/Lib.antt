@@ -1,6 +1,6 @@
 mod AnswerLemmas
 mod Digits
-mod FirstRefusal
+pub mod FirstRefusal
 mod QuoteLemmas
 mod LineLemmas
 mod Operands
