@@ -1,3 +1,5 @@
+pub mod AssignedLemmas
+pub mod DepthLemmas
 pub mod EarlierLemmas
 pub mod FormLemmas
 pub mod NameSetLemmas
@@ -6,3 +8,4 @@ pub mod PartLemmas
 pub mod PhaseLemmas
 pub mod ScriptLemmas
 pub mod UseLemmas
+pub mod PlaceLemmas

@@ -1,11 +1,10 @@
 -- Sets of texts, as the lists of the names that they hold.
 use Rattle.std.proofs.Common.{◌≡◌, ℕ, Bool, true, false, not, IsTrue, List, [], ◌∷◌, map, ◌⊎◌, inl, inr, ◌↔◌, refl, sym, ap, subst, ◌∙◌}
 use Rattle.std.specs.Prelude.{◌||◌}
+use Rattle.std.specs.Bool.{OnFalse}
 use Rattle.std.specs.BTreeSet.{insert_key}
-use Rattle.std.specs.Cmp.Lexicographic.{slice_cmp}
 use Rattle.std.specs.List.{AllByRecursion, IsAmong, list_any}
-use Rattle.std.specs.Ordering.{nat_cmp, is_eq, match_ordering}
-use Rattle.std.specs.declared.cmp.Ordering.{Ordering}
+use Rattle.std.specs.Ordering.{is_eq, match_ordering}
 use Rattle.std.specs.declared.cmp.Ordering.TheVariants.{Less, Equal, Greater}
 use Rattle.std.specs.Str.{chars, encode_utf8_all}
 use Rattle.std.specs.String.{string_bytes, string_cmp}
@@ -46,16 +45,16 @@ pub names_were : {Z : Type 0} (ts : List (String Z)) (t : String Z) (n : List �
 names_were [] t n m = among_cases [] (chars (string_bytes t)) n m
 names_were (u ∷ ts) t n m = elim (string_cmp t u) as (λ o. IsAmong (names_of (match_ordering o (t ∷ u ∷ ts) (u ∷ ts) (u ∷ insert_key string_cmp ts t))) n →
     (n ≡ chars (string_bytes t)) ⊎ IsAmong (names_of (u ∷ ts)) n) [
-  | Less ↦ λ m. among_cases (names_of (u ∷ ts)) (chars (string_bytes t)) n m
-  | Equal ↦ λ m. inr m
-  | Greater ↦ λ m. elim (among_cases (names_of (insert_key string_cmp ts t)) (chars (string_bytes u)) n m) [
-    | inl e ↦ inr (among_here (names_of ts) (chars (string_bytes u)) n e)
-    | inr k ↦ elim (names_were ts t n k) [
-      | inl e ↦ inl e
-      | inr l ↦ inr (among_there (names_of ts) (chars (string_bytes u)) n l)
-    ]
-  ]
-] m
+      | Less ↦ λ m. among_cases (names_of (u ∷ ts)) (chars (string_bytes t)) n m
+      | Equal ↦ λ m. inr m
+      | Greater ↦ λ m. elim (among_cases (names_of (insert_key string_cmp ts t)) (chars (string_bytes u)) n m) [
+        | inl e ↦ inr (among_here (names_of ts) (chars (string_bytes u)) n e)
+        | inr k ↦ elim (names_were ts t n k) [
+          | inl e ↦ inl e
+          | inr l ↦ inr (among_there (names_of ts) (chars (string_bytes u)) n l)
+        ]
+      ]
+    ] m
 
 -- the names that it had stay
 pub names_stay : {Z : Type 0} (ts : List (String Z)) (t : String Z) (n : List ℕ) → IsAmong (names_of ts) n → IsAmong (names_of (insert_key string_cmp ts t)) n
@@ -104,26 +103,34 @@ pub text_of_name : {Z : Type 0} (t : String Z) (bytes n : List ℕ) → string_b
 text_of_name t bytes n e f g = ap (λ b. encode_utf8_all (chars b)) e ∙ ap encode_utf8_all f ∙ sym g ∙ sym e
 
 -- what adding a text says of the names
-module _ {Z : Type 0} (ts us : List (String Z)) (t : String Z) (n : List ℕ) (added : Bool) (texts : AreTexts ts) (text : IsText t)
-    (own : chars (string_bytes t) ≡ n) where
-  pub names_added : us ≡ insert_key string_cmp ts t → (m : List ℕ) → IsAmong (names_of us) m ↔ ((m ≡ n) ⊎ IsAmong (names_of ts) m)
-  names_added e m = (there, back)
+module _ {Z : Type 0} (ts : List (String Z)) (t : String Z) (n : List ℕ) (own : chars (string_bytes t) ≡ n) where
+  pub names_added : (us : List (String Z)) → us ≡ insert_key string_cmp ts t → (m : List ℕ) → IsAmong (names_of us) m ↔ ((m ≡ n) ⊎ IsAmong (names_of ts) m)
+  names_added us e m = (there, back)
     where
       there : IsAmong (names_of us) m → (m ≡ n) ⊎ IsAmong (names_of ts) m
       there k = subst (λ v. (m ≡ v) ⊎ IsAmong (names_of ts) m) own (names_were ts t m (subst (λ v. IsAmong (names_of v) m) e k))
+
       back : (m ≡ n) ⊎ IsAmong (names_of ts) m → IsAmong (names_of us) m
       back (inl f) = subst (λ v. IsAmong (names_of v) m) (sym e) (subst (λ v. IsAmong (names_of (insert_key string_cmp ts t)) v) (own ∙ sym f) (name_comes ts t))
       back (inr k) = subst (λ v. IsAmong (names_of v) m) (sym e) (names_stay ts t m k)
 
-  pub added_new : added ≡ not (list_any (λ u. is_eq (string_cmp t u)) ts) → IsTrue added ↔ (IsAmong (names_of ts) n → ⊥)
-  added_new e = (there, back)
+  pub added_new : (added : Bool) → AreTexts ts → IsText t → added ≡ not (list_any (λ u. is_eq (string_cmp t u)) ts) → IsTrue added ↔ ¬ (IsAmong (names_of ts) n)
+  added_new added texts text e = (
+    λ h k. let f = ap not (is_met ts t texts text (subst (λ v. IsAmong (names_of ts) v) (sym own) k)) in false_true (sym (e ∙ f) ∙ h),
+    λ h. e ∙ ap not (by_test (list_any (λ u. is_eq (string_cmp t u)) ts) (λ f. h (subst (λ v. IsAmong (names_of ts) v) own (met_is ts t f)))),
+  )
     where
-      not_met : IsAmong (names_of ts) n → added ≡ false
-      not_met k = e ∙ ap not (is_met ts t texts text (subst (λ v. IsAmong (names_of ts) v) (sym own) k))
-      there : IsTrue added → IsAmong (names_of ts) n → ⊥
-      there h k = let f = not_met k in let g : false ≡ true = sym f ∙ h in cc
-      by_test : (b : Bool) → list_any (λ u. is_eq (string_cmp t u)) ts ≡ b → (IsAmong (names_of ts) n → ⊥) → added ≡ true
-      by_test true f h = absurd (h (subst (λ v. IsAmong (names_of ts) v) own (met_is ts t f)))
-      by_test false f h = e ∙ ap not f
-      back : (IsAmong (names_of ts) n → ⊥) → IsTrue added
-      back h = by_test (list_any (λ u. is_eq (string_cmp t u)) ts) refl h
+      false_true : false ≡ true → ⊥
+      false_true e = cc
+
+      by_test : (b : Bool) → (b ≡ true → ⊥) → b ≡ false
+      by_test true f = absurd (f refl)
+      by_test false f = refl
+
+  pub added_met : (added : Bool) → added ≡ not (list_any (λ u. is_eq (string_cmp t u)) ts) → OnFalse added (IsAmong (names_of ts) n)
+  added_met true e = tt
+  added_met false e = subst (λ v. IsAmong (names_of ts) v) own (met_is ts t (by_test (list_any (λ u. is_eq (string_cmp t u)) ts) (sym e)))
+    where
+      by_test : (b : Bool) → not b ≡ false → b ≡ true
+      by_test true f = refl
+      by_test false f = cc

@@ -1,4 +1,5 @@
 ghost use Rattle.std.specs.Prelude.{◌≡◌, ◌↔◌, ◌⊎◌, ℕ, List, [], IsTrue, IfOk, OnOk};
+ghost use Rattle.std.specs.Bool.{OnFalse};
 ghost use Rattle.std.specs.List.{IsAmong};
 
 use apl_base::{Name, NoMemory};
@@ -38,6 +39,7 @@ impl NameSet {
     /// Adds a name, and says whether it was not met before.
     pub(crate) fn add(&mut self, alloc: Global, name: &Name) -> Result<bool, NoMemory>
         ensures added { IfOk result (λ added. IsTrue added ↔ ¬ (IsAmong self.old name.now)) }
+        ensures met { IfOk result (λ added. OnFalse added (IsAmong self.old name.now)) }
         ensures names { OnOk result ((n : List ℕ) → IsAmong self.new n ↔ ((n ≡ name.now) ⊎ IsAmong self.old n)) }
     {
         let text = String::from_str(alloc, name.as_str())?;

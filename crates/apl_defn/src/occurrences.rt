@@ -7,6 +7,7 @@ use apl_base::Name;
 use apl_model::{Line, Token, Word};
 
 /// A name at its place.
+#[derive(Clone, Copy)]
 pub(crate) struct Occurrence<'a> {
     pub(crate) name: &'a Name,
     pub(crate) line: u32,
