@@ -2,13 +2,11 @@
 use Rattle.std.proofs.Common.{◌≡◌, ℕ, true, false, Bool, List, [], ◌∷◌, ◌++◌, map, Option, None, Some, ◌⊎◌, inl, inr, ◌↔◌, refl, sym, ap, subst, ◌∙◌, arith, append_assoc, append-nil}
 use Rattle.std.specs.Prelude.{slice_get, if◌then◌else◌}
 use Rattle.std.specs.List.{IsAmong}
-use lib.Pointwise.{bytes_decides}
 use Rattle.apl_base.specs.declared.faults.Cause.TheVariants as cause
 use Rattle.apl_base.specs.declared.faults.Refusal.{Refusal}
 use Rattle.apl_model.proofs.Accepted.{among_here, among_there, among_cases, among_none, no_stop, part_from}
 use Rattle.apl_model.proofs.Rows.{one_stop, before_after}
 use Rattle.apl_model.proofs.Unique.{one_header}
-use Rattle.apl_model.specs.Environment.{is_same_name}
 use Rattle.apl_model.specs.Refusal.{refusal, first_line, StopsAt, IsDefined, Heads, before_own_name, IsFirst, order}
 use Rattle.apl_model.specs.Script.{Part, alone, defined, parts, opens, IsHeadOf}
 use Rattle.apl_model.specs.declared.scripts.Header.{Header}
@@ -31,23 +29,6 @@ HaveSame names ps = (n : List ℕ) → IsAmong names n ↔ Heads ps n
 
 no_heads : (n : List ℕ) → Heads [] n → ⊥
 no_heads n h = among_none (defined h.first h.body h.is_defined.last) h.is_defined.among
-
--- whether a name is among others
-pub among_known : (names : List (List ℕ)) (n : List ℕ) → IsAmong names n ⊎ (IsAmong names n → ⊥)
-among_known [] n = inr (among_none n)
-among_known (m ∷ names) n = elim (is_same_name n m) as (λ b. is_same_name n m ≡ b → IsAmong (m ∷ names) n ⊎ (IsAmong (m ∷ names) n → ⊥)) [
-  | true ↦ λ e. inl (among_here names m n ((bytes_decides n m).0 e))
-  | false ↦ λ e. elim (among_known names n) [
-    | inl h ↦ inl (among_there names m n h)
-    | inr h ↦ inr (λ k. elim (among_cases names m n k) [
-      | inl f ↦ true_false ((bytes_decides n m).1 f) e
-      | inr l ↦ h l
-    ])
-  ]
-] refl
-  where
-    true_false : {A : Type 0} {b : Bool} → b ≡ true → b ≡ false → A
-    true_false e f = cc
 
 append_among : {A : Type 0} (xs ys : List A) (x : A) → IsAmong xs x → IsAmong (xs ++ ys) x
 append_among [] ys x m = absurd (among_none x m)
@@ -127,10 +108,10 @@ module _ (ps : List Part) (top : Line) (h : Header) (i : IsHeadOf top h) (names 
   pub first_heading : (IsAmong names h.f → ⊥) → IsFirstIfAny (IsSecondHeading ps top) None
   first_heading none r x = none (subst (λ n. IsAmong names n) (ap (λ (v : Header). v.f) (same_head top x.header h x.head i)) ((same x.header.f).1 x.earlier))
 
-  pub heading_again : (t : Token) → ((IsAmong names h.f → ⊥) → ⊥) → slice_get top.tokens (before_own_name h) ≡ Some t →
+  pub heading_again : (t : Token) → IsAmong names h.f → slice_get top.tokens (before_own_name h) ≡ Some t →
       IsFirstIfAny (IsSecondHeading ps top) (Some (refusal cause.DoubleName top.number t.from))
   heading_again t there e = only_first (IsSecondHeading ps top) (refusal cause.DoubleName top.number t.from)
-      (record { header = h; head = i; earlier = (same h.f).0 (elim (among_known names h.f) [ inl m ↦ m | inr n ↦ absurd (there n) ]); own = t; place = e; is = refl })
+      (record { header = h; head = i; earlier = (same h.f).0 there; own = t; place = e; is = refl })
       (λ s x. x.is ∙ ap (λ (v : Token). refusal cause.DoubleName top.number v.from) (own_is x.own t (sym x.place ∙ ap (λ k. slice_get top.tokens (before_own_name k)) (same_head top x.header h x.head i) ∙ e)))
     where
       own_is : (u v : Token) → Some u ≡ Some v → u ≡ v

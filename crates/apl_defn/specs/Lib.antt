@@ -1,7 +1,9 @@
+pub mod CommandSteps
+pub mod Earliest
+pub mod HeaderSteps
+pub mod NameRules
+pub mod Occurrences
 pub mod PartRefusals
 pub mod Parts
 pub mod Passes
 pub mod Reading
-pub mod Earliest
-pub mod NameRules
-pub mod Occurrences

@@ -75,7 +75,7 @@ tail_numbers o (after_jot_dot e p) k h = h
 tail_numbers o (after_dot f e p) k h = h
 tail_numbers o (after_quad p) k h = h
 
-words_append : (ts us : List Token) → AreWords ts → AreWords us → AreWords (ts ++ us)
+pub words_append : (ts us : List Token) → AreWords ts → AreWords us → AreWords (ts ++ us)
 words_append [] us h i = i
 words_append (t ∷ ts) us h i = (h.0, words_append ts us h.1 i)
 
@@ -83,7 +83,7 @@ pub words_front : (ts us : List Token) → AreWords (ts ++ us) → AreWords ts
 words_front [] us h = tt
 words_front (t ∷ ts) us h = (h.0, words_front ts us h.1)
 
-sound_append : (j : ℕ) (ps qs : List Piece) → AreSound ps → AreSound qs → AreSound (take j ps ++ qs)
+pub sound_append : (j : ℕ) (ps qs : List Piece) → AreSound ps → AreSound qs → AreSound (take j ps ++ qs)
 sound_append zero ps qs h i = i
 sound_append (suc j) [] qs h i = i
 sound_append (suc j) (p ∷ ps) qs h i = (h.0, sound_append j ps qs h.1 i)
