@@ -1,4 +1,5 @@
 pub mod AssignedLemmas
+pub mod BodyLines
 pub mod CommandReads
 pub mod Continued
 pub mod DepthLemmas
@@ -8,10 +9,12 @@ pub mod HeaderReads
 pub mod LineWords
 pub mod NameSetLemmas
 pub mod OrderLemmas
+pub mod OutsideLines
 pub mod PartLemmas
 pub mod PhaseLemmas
 pub mod PlaceLemmas
 pub mod PlainMarks
 pub mod Readers
 pub mod ScriptLemmas
+pub mod Stopped
 pub mod UseLemmas

@@ -1,6 +1,7 @@
 pub mod CommandSteps
 pub mod Earliest
 pub mod HeaderSteps
+pub mod LineStart
 pub mod NameRules
 pub mod Occurrences
 pub mod PartRefusals

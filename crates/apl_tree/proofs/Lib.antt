@@ -3,6 +3,7 @@ pub mod Heads
 pub mod Labels
 pub mod Opened
 pub mod Places
+pub mod Prepared
 pub mod Runs
 pub mod Shown
 pub mod SortFacts

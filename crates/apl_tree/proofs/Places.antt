@@ -1,5 +1,5 @@
 -- Where the reader stops is the place at which the tokens stop being the beginning of a statement.
-use Rattle.std.proofs.Common.{◌≡◌, ℕ, zero, suc, ◌+◌, ◌≤◌, List, [], ◌∷◌, ◌++◌, length, take, Option, None, Some, ℤ, refl, sym, ap, subst, ◌∙◌, arith, append-nil}
+use Rattle.std.proofs.Common.{◌≡◌, ℕ, zero, suc, ◌+◌, ◌≤◌, List, [], ◌∷◌, ◌++◌, length, take, Option, None, Some, ℤ, refl, sym, ap, subst, ◌∙◌, arith, append-nil, append_assoc}
 use Rattle.std.specs.Option.{option_and_then}
 use Rattle.apl_base.specs.declared.cells.Kind.{Kind}
 use Rattle.apl_base.specs.declared.cells.Kind.TheVariants as kind
@@ -88,6 +88,26 @@ sound_append zero ps qs h i = i
 sound_append (suc j) [] qs h i = i
 sound_append (suc j) (p ∷ ps) qs h i = (h.0, sound_append j ps qs h.1 i)
 
+-- a line can be cut behind some of its tokens, and goes on with any text that is put there
+pub record IsCutBehind (line : List ℕ) (before : List Token) : Type 0 where
+  pub l : ℕ
+  pub column : ℕ
+  pub read : (more : List ℕ) → AreSound (pieces_after 0 column more) → AreApart before (tokens_at column more) →
+      IsRead (cut l line more) (before ++ tokens_at column more)
+
+pub cut_behind : (line : List ℕ) (before after : List Token) → IsRead line (before ++ after) → IsCutBehind line before
+cut_behind line before after r =
+    let s = split (pieces line) r.sound before after r.same in
+    let c = pieces_cut 0 1 line s.j r.sound (omega arith) in
+    record {
+      l = c.l;
+      column = c.column;
+      read = λ more sound apart. record {
+        sound = subst AreSound (sym (c.same more)) (sound_append s.j (pieces line) (pieces_after 0 c.column more) r.sound sound);
+        same = ap tokens_of_pieces (c.same more) ∙ s.same (pieces_after 0 c.column more) apart;
+      };
+    }
+
 module _ (hs : List Heading) (n : ℕ) where
   numbers_step : (y : State) (t : Token) → IsNumbers t.word → EndsOpened (step hs n y t) → ⊥
   numbers_step y t i h = by t.word i h
@@ -106,34 +126,43 @@ module _ (hs : List Heading) (n : ℕ) where
 
   -- ---- The beginnings of statements ----
 
-  -- the tokens that the reader goes over begin a statement
-  begins : (line : List ℕ) (before after : List Token) (x : State) → IsRead line (before ++ after) → AreWords before →
-      run hs n (Some start) before ≡ Some x → IsBeginning by_itself hs n before
-  begins line before after x r w e =
-      let s = split (pieces line) r.sound before after r.same in
-      let c = pieces_cut 0 1 line s.j r.sound (omega arith) in
+  -- a line that begins with these tokens, of which the later ones begin a statement that goes on to its end
+  pub record IsCompleted (front before : List Token) : Type 0 where
+    pub text : List ℕ
+    pub rest : List Token
+    pub read : IsRead text (front ++ (before ++ rest))
+    pub lawful : IsLawful by_itself hs n (before ++ rest)
+
+  -- the tokens that the reader goes over begin a statement, also behind others
+  pub completes : (line : List ℕ) (front before after : List Token) (x : State) → IsRead line (front ++ (before ++ after)) → AreWords before →
+      (EndsInNumbers (front ++ before) → EndsInNumbers before) → run hs n (Some start) before ≡ Some x → IsCompleted front before
+  completes line front before after x r w ends e =
+      let c = cut_behind line (front ++ before) after (subst (IsRead line) (sym (append_assoc front before after)) r) in
       let more = tail_by x.stack x.status in
       let f = completed hs n x c.column in
-      let apart : AreApart before (tokens_at c.column more) =
-      λ i h. numbers_last (Some start) before i (subst EndsOpened (sym e) (tail_numbers x.stack x.status c.column h)) in
+      let apart : AreApart (front ++ before) (tokens_at c.column more) =
+      λ i h. numbers_last (Some start) before (ends i) (subst EndsOpened (sym e) (tail_numbers x.stack x.status c.column h)) in
       let given : read hs n (before ++ tokens_at c.column more) ≡ Some f.statement =
       ap (option_and_then finished) (run-append hs n (Some start) before (tokens_at c.column more) ∙ ap (λ y. run hs n y (tokens_at c.column more)) e) ∙ f.ends in
       let lawful = read_sound hs n (before ++ tokens_at c.column more) f.statement (words_append before (tokens_at c.column more) w f.words) given in
       record {
         text = cut c.l line more;
         rest = tokens_at c.column more;
-        read = record {
-          sound = subst AreSound (sym (c.same more)) (sound_append s.j (pieces line) (pieces_after 0 c.column more) r.sound f.sound);
-          same = ap tokens_of_pieces (c.same more) ∙ s.same (pieces_after 0 c.column more) apart;
-        };
+        read = subst (IsRead (cut c.l line more)) (append_assoc front before (tokens_at c.column more)) (c.read more f.sound apart);
         lawful = (f.statement, lawful.0, lawful.1);
       }
+
+  pub begins : (line : List ℕ) (before after : List Token) (x : State) → IsRead line (before ++ after) → AreWords before →
+      run hs n (Some start) before ≡ Some x → IsBeginning by_itself hs n before
+  begins line before after x r w e =
+      let c = completes line [] before after x r w (λ i. i) e in
+      record { text = c.text; rest = c.rest; read = c.read; lawful = c.lawful }
 
   some_clash : {x : State} → None ≡ Some x → ⊥
   some_clash e = cc
 
   -- no statement begins with tokens that the reader doesn't go over
-  begins_none : (ts : List Token) → run hs n (Some start) ts ≡ None → IsBeginning by_itself hs n ts → ⊥
+  pub begins_none : (ts : List Token) → run hs n (Some start) ts ≡ None → IsBeginning by_itself hs n ts → ⊥
   begins_none ts e b =
       let l = b.lawful in
       none_clash (sym (ap (option_and_then finished) (run-append hs n (Some start) ts b.rest ∙ ap (λ y. run hs n y b.rest) e ∙ run-none hs n b.rest))

@@ -2,10 +2,12 @@
 use Rattle.std.proofs.Common.{◌≡◌, ℕ, zero, suc, ◌+◌, ◌<◌, ◌≤◌, ◌^◌, ◌==◌, Bool, true, false, ◌&&◌, cond, IsTrue, List, [], ◌∷◌, length, take, Option, None, Some, ℤ, pos, refl, ap, subst, arith, one-add}
 use Rattle.std.proofs.lemmas.Bool.{and_parts, and_from}
 use Rattle.std.proofs.lemmas.Float.{T_from_true}
+use Rattle.std.proofs.lemmas.Str.{scalars-chars}
 use Rattle.std.specs.Char.{IsScalar}
 use Rattle.std.specs.List.{AllByRecursion, prefix_len}
 use Rattle.std.specs.Option.{unwrap_or, option_map}
 use Rattle.std.specs.Prelude.{neg_ℤ, int_le}
+use Rattle.std.specs.Str.{chars, IsUtf8}
 use lib.Signed.{le_z_yes}
 use lib.Utf8.{scalar, scalars}
 use Rattle.apl_base.specs.Number.{IsNumber, is_number, IsCell}
@@ -239,3 +241,7 @@ line_words line h l =
 pub given_words : (line : List ℕ) (ts : List Token) → AllByRecursion IsScalar line → length line ≤ 1000 → AreTokensOf line ts → AreWords ts
 given_words line ts h l (all_of r) = subst AreWords r.same (line_words line h (omega arith))
 given_words line ts h l (after_label first colon label e f r) = (subst AreWords r.same (line_words line h (omega arith))).1.1
+
+-- so are those of a line whose text is the characters of UTF-8
+pub text_words : (bytes line : List ℕ) (ts : List Token) → IsUtf8 bytes → chars bytes ≡ line → length line ≤ 1000 → AreTokensOf line ts → AreWords ts
+text_words bytes line ts u e l h = given_words line ts (are_scalars line (subst (λ cs. scalars cs ≡ true) e (scalars-chars bytes u))) l h

@@ -1,3 +1,4 @@
 pub mod Condition
 pub mod Mirror
 pub mod Outcome
+pub mod Prepared

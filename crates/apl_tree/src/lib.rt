@@ -16,4 +16,4 @@ mod tests;
 mod waits;
 
 pub use lookups::Lookup;
-pub use statements::statement;
+pub use statements::{statement, statement_among};

@@ -2,10 +2,10 @@ ghost use Rattle.std.specs.Prelude.{◌≡◌, IfOk};
 ghost use Rattle.apl_model.proofs.Machine.{sort};
 ghost use Rattle.apl_tree.specs.Mirror.{sort_of};
 
-use crate::arguments::arguments_of;
+use crate::arguments::NameClasses;
 use crate::glyphs::glyph_sort;
 use apl_base::{Cell, Dya, Kind, Mon, Name, NoMemory};
-use apl_model::{Classes, DyaFn, Literal, MonFn, Word};
+use apl_model::{DyaFn, Literal, MonFn, Word};
 use sqlite_items::Items;
 use std::alloc::Global;
 
@@ -48,8 +48,12 @@ pub enum Sort {
 }
 
 /// What a word is to the grammar, over these classes of names.
-pub fn classify(alloc: Global, classes: &Classes, word: &Word) -> Result<Sort, NoMemory>
-    ensures { IfOk result (λ s. sort_of s ≡ sort classes.now.headings word.now) }
+pub(crate) fn classify<C: NameClasses>(
+    alloc: Global,
+    classes: &C,
+    word: &Word,
+) -> Result<Sort, NoMemory>
+    ensures { IfOk result (λ s. sort_of s ≡ sort (C.headings classes.now) word.now) }
 {
     match word {
         Word::Numbers { cells } => literal_sort(alloc, Kind::Num, cells),
@@ -70,10 +74,10 @@ fn literal_sort(alloc: Global, kind: Kind, cells: &Items<Cell>) -> Result<Sort, 
 }
 
 /// A name, with the number of its function's arguments.
-fn named_sort(alloc: Global, classes: &Classes, name: &Name) -> Result<Sort, NoMemory>
-    ensures { IfOk result (λ s. sort_of s ≡ sort classes.now.headings (Word.Name name.now)) }
+fn named_sort<C: NameClasses>(alloc: Global, classes: &C, name: &Name) -> Result<Sort, NoMemory>
+    ensures { IfOk result (λ s. sort_of s ≡ sort (C.headings classes.now) (Word.Name name.now)) }
 {
-    let arguments = arguments_of(classes, name);
+    let arguments = classes.arguments(name);
     let name = name.copy(alloc)?;
     Ok(Sort::Named { name, arguments })
 }

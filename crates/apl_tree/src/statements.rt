@@ -1,4 +1,4 @@
-ghost use Rattle.std.specs.Prelude.{◌≡◌, ◌≤◌, length, IfOk};
+ghost use Rattle.std.specs.Prelude.{◌≡◌, ◌≤◌, length, drop, IfOk};
 ghost use Rattle.apl_model.proofs.Machine as machine;
 ghost use Rattle.apl_model.specs.Grammar.{IsStatement};
 ghost use Rattle.apl_model.specs.Mirror.{statement_of};
@@ -7,6 +7,8 @@ ghost use Rattle.apl_model.specs.Spelling.{Spell, statement_spelling};
 ghost use Rattle.apl_tree.specs.Condition.{AreTokensOf};
 ghost use Rattle.apl_tree.specs.Outcome.{IfRefused, IsReading};
 
+use crate::arguments::NameClasses;
+use crate::lookups::Lookup;
 use crate::reader::Reader;
 use crate::sorts::classify;
 use apl_base::{Cause, NoMemory, Place, Refusal};
@@ -37,8 +39,49 @@ pub fn statement(alloc: Global, line: &Line, classes: &Classes) -> Result<Statem
     ensures line { IfRefused result (λ r. r.line ≡ line.now.number) }
     ensures column { IfRefused result (λ r. refusal.StopsAt refusal.by_itself classes.now.headings line.now.number line.now.tokens r.column) }
 {
+    statement_from(alloc, line, 0, classes)
+}
+
+/// The statement of a line's tokens from one of them on, over prepared classes of names. Tokens that are none are
+/// refused as by `statement`.
+pub fn statement_among(
+    alloc: Global,
+    line: &Line,
+    from: usize,
+    lookup: &Lookup,
+) -> Result<Statement, ReadFault>
+    requires short { length line.now.text ≤ 1000 }
+    requires within { from ≤ length line.now.tokens }
+    requires tokens { AreTokensOf line.now.text (drop from line.now.tokens) }
+    ensures lawful { IfOk result (λ s. IsStatement lookup.now (statement_of s)) }
+    ensures spells { IfOk result (λ s. Spell line.now.number (statement_spelling (statement_of s)) (drop from line.now.tokens)) }
+    ensures refused { IfRefused result (λ r. ¬ (refusal.IsLawful refusal.by_itself lookup.now line.now.number (drop from line.now.tokens))) }
+    ensures cause { IfRefused result (λ r. r.cause ≡ Cause.Grammar) }
+    ensures line { IfRefused result (λ r. r.line ≡ line.now.number) }
+    ensures column { IfRefused result (λ r. refusal.StopsAt refusal.by_itself lookup.now line.now.number (drop from line.now.tokens) r.column) }
+{
+    statement_from(alloc, line, from, lookup)
+}
+
+/// The statement of a line's tokens from one of them on.
+fn statement_from<C: NameClasses>(
+    alloc: Global,
+    line: &Line,
+    from: usize,
+    classes: &C,
+) -> Result<Statement, ReadFault>
+    requires short { length line.now.text ≤ 1000 }
+    requires within { from ≤ length line.now.tokens }
+    requires tokens { AreTokensOf line.now.text (drop from line.now.tokens) }
+    ensures lawful { IfOk result (λ s. IsStatement (C.headings classes.now) (statement_of s)) }
+    ensures spells { IfOk result (λ s. Spell line.now.number (statement_spelling (statement_of s)) (drop from line.now.tokens)) }
+    ensures refused { IfRefused result (λ r. ¬ (refusal.IsLawful refusal.by_itself (C.headings classes.now) line.now.number (drop from line.now.tokens))) }
+    ensures cause { IfRefused result (λ r. r.cause ≡ Cause.Grammar) }
+    ensures line { IfRefused result (λ r. r.line ≡ line.now.number) }
+    ensures column { IfRefused result (λ r. refusal.StopsAt refusal.by_itself (C.headings classes.now) line.now.number (drop from line.now.tokens) r.column) }
+{
     let _text = line.text.as_str();
-    match read(alloc, line.number, line.tokens.as_slice(), classes) {
+    match read(alloc, line.number, &line.tokens.as_slice()[from..], classes) {
         Ok(Reading::Done { statement }) => Ok(statement),
         Ok(Reading::Stopped { column }) => Err(ReadFault::Refused {
             refusal: Refusal {
@@ -52,13 +95,13 @@ pub fn statement(alloc: Global, line: &Line, classes: &Classes) -> Result<Statem
 }
 
 /// What these tokens of the line of this number are.
-pub(crate) fn read(
+pub(crate) fn read<C: NameClasses>(
     alloc: Global,
     number: u32,
     tokens: &[Token],
-    classes: &Classes,
+    classes: &C,
 ) -> Result<Reading, NoMemory>
-    ensures { IfOk result (IsReading classes.now.headings number tokens.now) }
+    ensures { IfOk result (IsReading (C.headings classes.now) number tokens.now) }
 {
     let mut reader = Reader::new(alloc);
     for token in tokens {

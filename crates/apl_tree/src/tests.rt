@@ -1,4 +1,5 @@
-use crate::statements::{Reading, read, statement};
+use crate::lookups::Lookup;
+use crate::statements::{Reading, read, statement, statement_among};
 use apl_base::{Cell, Name, Place};
 use apl_model::{Classes, Expr, Heading, Statement, Token, Word};
 use apl_read::{ReadFault, tokens};
@@ -446,9 +447,7 @@ fn first_statement(
     alloc: Global,
     script: &str,
 ) -> Result<Option<Result<Statement, ReadFault>>, Fail> {
-    let classes = Classes {
-        headings: Items::new(alloc),
-    };
+    let classes = classes(alloc)?;
     let Ok(lines) = tokens(alloc, script.as_bytes()) else {
         return Ok(None);
     };
@@ -458,9 +457,24 @@ fn first_statement(
     }
 }
 
-/// The place of a script's first line where it stops being a statement, `0 0` where it is one.
-fn stop(alloc: Global, script: &str) -> Result<(u32, u32), Fail> {
-    match first_statement(alloc, script)?.ok_or("a line")? {
+/// The same over prepared classes of names.
+fn first_statement_among(
+    alloc: Global,
+    script: &str,
+) -> Result<Option<Result<Statement, ReadFault>>, Fail> {
+    let lookup = Lookup::of(alloc, classes(alloc)?)?;
+    let Ok(lines) = tokens(alloc, script.as_bytes()) else {
+        return Ok(None);
+    };
+    match lines.lines.as_slice() {
+        [] => Ok(None),
+        [line, ..] => Ok(Some(statement_among(alloc, line, 0, &lookup))),
+    }
+}
+
+/// The place where a line stops being a statement, `0 0` where it is one.
+fn stop(answer: Option<Result<Statement, ReadFault>>) -> Result<(u32, u32), Fail> {
+    match answer.ok_or("a line")? {
         Ok(_) => Ok((0, 0)),
         Err(ReadFault::Refused { refusal }) => Ok((refusal.line, refusal.column)),
         Err(ReadFault::NoMemory) => Err("memory")?,
@@ -469,10 +483,40 @@ fn stop(alloc: Global, script: &str) -> Result<(u32, u32), Fail> {
 
 #[test]
 fn lines_of_scripts_are_statements(rt: HostRuntime) -> Result<(), Fail> {
-    assert_eq!(rt; stop(rt.alloc(), "A←1+2")?, (0, 0));
-    assert_eq!(rt; stop(rt.alloc(), "A←(1+2")?, (1, 7));
-    assert_eq!(rt; stop(rt.alloc(), "1++")?, (1, 4));
-    assert_eq!(rt; stop(rt.alloc(), "A]")?, (1, 2));
-    assert_eq!(rt; stop(rt.alloc(), "⌽[1 2]3")?, (1, 3));
+    let places = [
+        ("A←1+2", (0, 0)),
+        ("A←(1+2", (1, 7)),
+        ("1++", (1, 4)),
+        ("A]", (1, 2)),
+        ("⌽[1 2]3", (1, 3)),
+        ("1 D M N", (0, 0)),
+        ("D 1", (1, 1)),
+    ];
+    for (text, place) in places.iter() {
+        assert_eq!(rt; stop(first_statement(rt.alloc(), text)?)?, *place, "{text}");
+        assert_eq!(rt;
+            stop(first_statement_among(rt.alloc(), text)?)?,
+            *place,
+            "{text}"
+        );
+    }
+    Ok(())
+}
+
+/// The classes, with a second heading of `M`.
+fn doubled(alloc: Global) -> Result<Classes, Fail> {
+    let Classes { mut headings } = classes(alloc)?;
+    headings.push(heading(alloc, "M", 2)?)?;
+    Ok(Classes { headings })
+}
+
+#[test]
+fn the_first_heading_of_a_name_counts(rt: HostRuntime) -> Result<(), Fail> {
+    let alloc = rt.alloc();
+    let lookup = Lookup::of(alloc, doubled(alloc)?)?;
+    for (name, arguments) in [("N", Some(0)), ("M", Some(1)), ("D", Some(2)), ("A", None)].iter() {
+        let name = Name::of(alloc, name)?;
+        assert_eq!(rt; lookup.arguments(&name), *arguments);
+    }
     Ok(())
 }

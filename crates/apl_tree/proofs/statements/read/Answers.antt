@@ -8,8 +8,8 @@ use Rattle.apl_tree.specs.Outcome.{Stops, at_token, at_end}
 use Rattle.apl_tree.proofs.statements.read.Goals as goal
 
 pub returns-in-None : goal.returns-in-None
-returns-in-None c =
-    let hs = c.args.classes.now.headings in
+returns-in-None g c =
+    let hs = g.C.NameClasses.headings c.args.classes.now in
     let n = c.args.number in
     let ts = c.args.tokens.now in
     let i = c.loop-token.token-index in
@@ -21,8 +21,8 @@ returns-in-None c =
     at_token (take i ts) t (drop (i + 1) ts) x (cut_at hs n ts i t within c.token-item.is) c.loop-token.invariant s refl
 
 pub loop-token-preserved : goal.loop-token-preserved
-loop-token-preserved c =
-    let hs = c.args.classes.now.headings in
+loop-token-preserved g c =
+    let hs = g.C.NameClasses.headings c.args.classes.now in
     let n = c.args.number in
     let ts = c.args.tokens.now in
     let i = c.loop-token.token-index in
@@ -34,8 +34,8 @@ loop-token-preserved c =
     ∙ ap (machine.taken x p) (sym c.in_ok-sort.ensures) ∙ sym c.in_ok-next.ensures ∙ ap reading_of c.in-Some.is
 
 pub returns-in-None-2 : goal.returns-in-None-2
-returns-in-None-2 c =
-    let hs = c.args.classes.now.headings in
+returns-in-None-2 g c =
+    let hs = g.C.NameClasses.headings c.args.classes.now in
     let n = c.args.number in
     let ts = c.args.tokens.now in
     let i = c.loop-token.token-index in
