@@ -92,6 +92,7 @@ headed_more ps top body last h names more i same added = λ n. (to n, from n)
       }
       | inr k ↦ more_parts ps (defined top body last) n ((same n).0 k)
     ]
+
     from : (n : List ℕ) → Heads (ps ++ (defined top body last ∷ [])) n → IsAmong more n
     from n x = elim (defined_heads ps top body last n x) [
       | inl k ↦ (added n).1 (inr ((same n).1 k))
@@ -155,6 +156,7 @@ module _ (ps : List Part) (top : Line) (body : List Line) (last : Option Line) (
       to v (inl (inr x)) = inr (inr (inr (inr x)))
       to v (inr (inl x)) = inr (inr (inr (inl (record { header = h; head = i; repeated = x }))))
       to v (inr (inr x)) = inr (inr (inl x))
+
       from : (v : Refusal) → IsFormRefusal ps (defined top body last) v → (OfSome IsNested body v ⊎ IsNeverClosed top last v) ⊎ (IsRepeated top body v ⊎ IsSecondHeading ps top v)
       from v (inl x) = absurd (head_stops top read h v i x)
       from v (inr (inl x)) = inl (inl x)
@@ -178,6 +180,7 @@ module _ (ps : List Part) (top : Line) (body : List Line) (last : Option Line) (
       to v (inl (inl x)) = inr (inl x)
       to v (inl (inr x)) = inr (inr (inr (inr x)))
       to v (inr x) = inl x
+
       from : (v : Refusal) → IsFormRefusal ps (defined top body last) v → (OfSome IsNested body v ⊎ IsNeverClosed top last v) ⊎ IsNoHeader top v
       from v (inl x) = inr x
       from v (inr (inl x)) = inl (inl x)

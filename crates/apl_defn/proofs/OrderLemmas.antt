@@ -47,6 +47,7 @@ module _ (ls : List Line) where
     where
       early : phase r.cause ≡ 2
       early = form_phase h.refuses.before h.refuses.part r h.refuses.refuses
+
       go : (s : Refusal) → IsLineRefusal ls s → IsNotAfter (order r) (order s)
       go s (header x) = h.first s (header_form ls s x)
       go s (double_name x) = h.first s (double_form ls s x)

@@ -257,49 +257,69 @@ module _ (ls : List Line) where
     use_is r h = use_refuses h.0 r h.1 h.2
 
     pub class_use : (r : Refusal) → IsNameClass ls r → OfSome (IsUseRefusal hs) (parts ls) r
-    class_use r (assigned l before after t u n (inl m) e f s j q) = (alone l, m, inl (record {
-      before = before;
-      after = after;
-      name_token = t;
-      arrow = u;
-      name = n;
-      split = e;
-      named = f;
-      assigns = s;
-      heads = heads_known (parts ls) hs n classes j;
-      is = q;
-    }))
-    class_use r (assigned l before after t u n (inr m) e f s j q) = (defined m.0 m.1 m.2, m.3, inr (l, m.4, inl (record {
-      before = before;
-      after = after;
-      name_token = t;
-      arrow = u;
-      name = n;
-      split = e;
-      named = f;
-      assigns = s;
-      heads = heads_known (parts ls) hs n classes j;
-      is = q;
-    })))
-    class_use r (erased l before after t u v n m e f g s j q) = (alone l, m, inr (inl (record {
-      close = t;
-      command = u;
-      before = before;
-      after = after;
-      name_token = v;
-      name = n;
-      split = e;
-      closes = f;
-      erases = g;
-      named = s;
-      heads = heads_known (parts ls) hs n classes j;
-      is = q;
-    })))
-    class_use r (declared top body h o d m n j q) = (defined top body d.last, d.among, inl (record {
-      header = h;
-      head = d.head;
-      declared = record { here = o; among = m; other = n; heads = heads_known (parts ls) hs o.name classes j; is = q };
-    }))
+    class_use r (assigned l before after t u n (inl m) e f s j q) = (
+      alone l,
+      m,
+      inl (record {
+        before = before;
+        after = after;
+        name_token = t;
+        arrow = u;
+        name = n;
+        split = e;
+        named = f;
+        assigns = s;
+        heads = heads_known (parts ls) hs n classes j;
+        is = q;
+      }),
+    )
+    class_use r (assigned l before after t u n (inr m) e f s j q) = (
+      defined m.0 m.1 m.2,
+      m.3,
+      inr (
+        l,
+        m.4,
+        inl (record {
+          before = before;
+          after = after;
+          name_token = t;
+          arrow = u;
+          name = n;
+          split = e;
+          named = f;
+          assigns = s;
+          heads = heads_known (parts ls) hs n classes j;
+          is = q;
+        }),
+      ),
+    )
+    class_use r (erased l before after t u v n m e f g s j q) = (
+      alone l,
+      m,
+      inr (inl (record {
+        close = t;
+        command = u;
+        before = before;
+        after = after;
+        name_token = v;
+        name = n;
+        split = e;
+        closes = f;
+        erases = g;
+        named = s;
+        heads = heads_known (parts ls) hs n classes j;
+        is = q;
+      })),
+    )
+    class_use r (declared top body h o d m n j q) = (
+      defined top body d.last,
+      d.among,
+      inl (record {
+        header = h;
+        head = d.head;
+        declared = record { here = o; among = m; other = n; heads = heads_known (parts ls) hs o.name classes j; is = q };
+      }),
+    )
 
     pub deep_use : (r : Refusal) → IsDeep ls r → OfSome (IsUseRefusal hs) (parts ls) r
     deep_use r (opened l t (inl m) e q) = (alone l, m, inr (inr (inl (record { token = t; opens = e; is = q }))))

@@ -50,6 +50,7 @@ module _ (hs : List Heading) (l : Line) (a d : Option Refusal) (fa : IsFirstIfAn
       to : (r : Refusal) → IsAssigned hs l r ⊎ IsTooDeep l r → IsBodyRefusal hs l r
       to r (inl x) = inl x
       to r (inr x) = inr (inl x)
+
       from : (r : Refusal) → IsBodyRefusal hs l r → IsAssigned hs l r ⊎ IsTooDeep l r
       from r (inl x) = inl x
       from r (inr (inl x)) = inr x
@@ -66,6 +67,7 @@ module _ (hs : List Heading) (l : Line) (a d : Option Refusal) (fa : IsFirstIfAn
       to r (inl (inl x)) = inl x
       to r (inl (inr x)) = inr (inl x)
       to r (inr x) = inr (inr x)
+
       from : (r : Refusal) → IsBodyRefusal hs l r → (IsAssigned hs l r ⊎ IsTooDeep l r) ⊎ IsStopped in_body hs l r
       from r (inl x) = inl (inl x)
       from r (inr (inl x)) = inl (inr x)
@@ -86,6 +88,7 @@ module _ (hs : List Heading) (l : Line) (a d : Option Refusal) (fa : IsFirstIfAn
         to r (inl (inl x)) = inl x
         to r (inl (inr x)) = inr (inl x)
         to r (inr x) = inr (inr (inl x))
+
         from : (r : Refusal) → IsOutsideRefusal hs l r → (IsAssigned hs l r ⊎ IsErased hs l r) ⊎ IsTooDeep l r
         from r (inl x) = inl (inl x)
         from r (inr (inl x)) = inl (inr x)
@@ -104,6 +107,7 @@ module _ (hs : List Heading) (l : Line) (a d : Option Refusal) (fa : IsFirstIfAn
         to r (inl (inl (inr x))) = inr (inl x)
         to r (inl (inr x)) = inr (inr (inl x))
         to r (inr x) = inr (inr (inr x))
+
         from : (r : Refusal) → IsOutsideRefusal hs l r → ((IsAssigned hs l r ⊎ IsErased hs l r) ⊎ IsTooDeep l r) ⊎ IsStopped outside hs l r
         from r (inl x) = inl (inl (inl x))
         from r (inr (inl x)) = inl (inl (inr x))
@@ -181,6 +185,7 @@ definition_first hs top body last h d b i fd fb =
     to : (r : Refusal) → IsDeclared hs h.f top body r ⊎ OfSome (IsBodyRefusal hs) body r → IsUseRefusal hs (defined top body last) r
     to r (inl x) = inl (record { header = h; head = i; declared = x })
     to r (inr x) = inr x
+
     from : (r : Refusal) → IsUseRefusal hs (defined top body last) r → IsDeclared hs h.f top body r ⊎ OfSome (IsBodyRefusal hs) body r
     from r (inl x) =
         let e = one_header top.number top.tokens x.header h x.head.header i.header x.head.spells i.spells in

@@ -14,6 +14,8 @@ mod occurrences;
 mod parts;
 mod scripts;
 mod statement_lines;
+#[cfg(test)]
+mod tests;
 mod uses;
 
 pub use scripts::{script, script_of_bytes};

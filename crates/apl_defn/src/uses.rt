@@ -102,12 +102,7 @@ impl Uses {
     }
 
     /// Goes over one more line outside definitions.
-    fn add_outside(
-        &mut self,
-        alloc: Global,
-        line: &Line,
-        lookup: &Lookup,
-    ) -> Result<(), NoMemory>
+    fn add_outside(&mut self, alloc: Global, line: &Line, lookup: &Lookup) -> Result<(), NoMemory>
         requires { IsReadLine line.now }
         ensures { OnOk result ((ps : List ScriptPart) → AreUses lookup.now ps self.old → AreUses lookup.now (ps ++ alone line.now ∷ []) self.new) }
     {
