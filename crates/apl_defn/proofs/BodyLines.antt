@@ -1,16 +1,15 @@
 -- Where the lines of a body stop being the beginning of a lawful one.
-use Rattle.std.proofs.Common.{◌≡◌, ℕ, suc, zero, ◌==◌, Bool, true, false, cond, IsTrue, List, [], ◌∷◌, ◌++◌, drop, Option, None, Some, refl, sym, ap, subst, ◌∙◌, arith, append_assoc, append-nil}
+use Rattle.std.proofs.Common.{◌≡◌, ℕ, suc, zero, ◌==◌, Bool, true, false, cond, IsTrue, List, [], ◌∷◌, ◌++◌, drop, Option, None, Some, refl, sym, ap, subst, ◌∙◌, arith, append-nil}
 use Rattle.std.specs.Option.{option_and_then}
 use Rattle.std.proofs.lemmas.Bool.{eqb-true}
 use Rattle.std.proofs.lemmas.Bool.Decides.{nat_tests}
 use Rattle.apl_base.specs.declared.faults.Place.{Place}
 use Rattle.apl_model.proofs.Complete.{read_complete}
-use Rattle.apl_model.proofs.Machine.{State, state, bottom, begun, named, taken, sort, step, run, start, finished, read}
+use Rattle.apl_model.proofs.Machine.{State, named, taken, sort, step, run, start, finished, read}
 use Rattle.apl_model.proofs.Unique.{no_label, none_clash, run_none}
 use Rattle.apl_model.specs.Characters.{code, is_name}
-use Rattle.apl_model.specs.Grammar.{IsStatement, arguments_of}
+use Rattle.apl_model.specs.Grammar.{arguments_of}
 use Rattle.apl_model.specs.Refusal.{IsBeginning, StopsAt, at_token, past_the_last, by_itself, in_body, past_last, IsLawful}
-use Rattle.apl_model.specs.Script.{is_glyph_token}
 use Rattle.apl_model.specs.Spelling.{glyph, Spell, statement_spelling, body_spelling}
 use Rattle.apl_model.specs.Tokens.{IsRead}
 use Rattle.apl_model.specs.Tree.{Statement, nothing}
@@ -19,6 +18,7 @@ use Rattle.apl_model.specs.declared.tokens.Token.{Token}
 use Rattle.apl_model.specs.declared.tokens.Word.{Word}
 use Rattle.apl_model.specs.declared.tokens.Word.TheVariants as word
 use Rattle.apl_defn.specs.LineStart.{name_of, label_of, has_left, begins_between, second_column}
+use Rattle.apl_tree.proofs.Cuts.{cut}
 use Rattle.apl_tree.proofs.Labels.{as_whole}
 use Rattle.apl_tree.proofs.Places.{begins, begins_none, completes, cut_behind, words_front}
 use Rattle.apl_tree.proofs.SortFacts.{IsWord, AreWords}
@@ -26,6 +26,7 @@ use Rattle.apl_tree.proofs.SplitTokens.{IsNumbers, EndsInNumbers, AreApart}
 use Rattle.apl_tree.proofs.Tails.{tokens_at, with_glyph}
 use Rattle.apl_tree.specs.Condition.{AreTokensOf, after_label}
 
+-- neither a name nor : is a literal of numbers
 not_name_numbers : (w : Word) (l : List ℕ) → w ≡ word.Name l → IsNumbers w → ⊥
 not_name_numbers w l e h = subst IsNumbers e h
 
@@ -37,6 +38,7 @@ ends_behind : (t u : Token) (before : List Token) → u.word ≡ glyph ":" → E
 ends_behind t u [] e h = absurd (not_glyph_numbers u.word e h)
 ends_behind t u (v ∷ vs) e h = h
 
+-- no numbers meet behind a name
 name_numbers : (t : Token) (l : List ℕ) (us : List Token) → t.word ≡ word.Name l → AreApart (t ∷ []) us
 name_numbers t l us e i h = not_name_numbers t.word l e i
 
@@ -45,6 +47,7 @@ both e = cc
 
 -- ---- Labels ----
 
+-- the label of a line whose first two tokens have these words
 abbrev label_by : Word → Word → Option (List ℕ)
 label_by v w = cond (elim w [ word.Glyph c ↦ c == code ":" | _ ↦ false ]) (elim v [ word.Name n ↦ Some n | _ ↦ None ]) None
 
@@ -55,6 +58,7 @@ none_some e = cc
 unlabelled : (l : List ℕ) (t u : Token) (ts : List Token) → word.Name l ≡ t.word → glyph ":" ≡ u.word → label_of (t ∷ u ∷ ts) ≡ None → ⊥
 unlabelled l t u ts e f h = none_some (ap (λ w. label_by (word.Name l) w) f ∙ ap (λ v. label_by v u.word) e ∙ h)
 
+-- what follows the second token doesn't change the label
 same_label : (t : Token) (bs : List Token) (v : Token) (after rest : List Token) → label_of (t ∷ ((bs ++ v ∷ []) ++ rest)) ≡ label_of (t ∷ (bs ++ v ∷ after))
 same_label t [] v after rest = refl
 same_label t (b ∷ bs) v after rest = refl
@@ -71,12 +75,14 @@ pub record HasLabel (l : List ℕ) (t u : Token) : Type 0 where
 some_none : {l : List ℕ} → None ≡ Some l → ⊥
 some_none e = cc
 
+-- a token that has a name is it
 is_named : (v : Word) (l : List ℕ) → (elim v [ word.Name n ↦ Some n | _ ↦ None ]) ≡ Some l → v ≡ word.Name l
 is_named (word.Name n) l h = cc
 is_named (word.Numbers zs) l h = absurd (some_none h)
 is_named (word.Chars zs) l h = absurd (some_none h)
 is_named (word.Glyph c) l h = absurd (some_none h)
 
+-- a label is there only where the second token is :
 by_colon : (b : Bool) (c : ℕ) (o : Option (List ℕ)) (l : List ℕ) → (c == code ":") ≡ b → cond b o None ≡ Some l → (word.Glyph c ≡ glyph ":") × (o ≡ Some l)
 by_colon true c o l e h = (ap word.Glyph (eqb-true c (code ":") e), h)
 by_colon false c o l e h = absurd (some_none h)
@@ -87,6 +93,7 @@ is_colon (word.Numbers zs) o l h = absurd (some_none h)
 is_colon (word.Chars zs) o l h = absurd (some_none h)
 is_colon (word.Name n) o l h = absurd (some_none h)
 
+-- a label is the first token, and : the second
 has_label : (t u : Token) (ts : List Token) (l : List ℕ) → label_of (t ∷ u ∷ ts) ≡ Some l → HasLabel l t u
 has_label t u ts l h =
     let c = is_colon u.word (name_of t) l h in
@@ -105,6 +112,7 @@ label_name (t ∷ []) l w h = absurd (some_none h)
 label_name (t ∷ u ∷ ts) l w h = subst IsWord (has_label t u ts l h).named w.0
 
 module _ (hs : List Heading) (n : ℕ) where
+  -- the reader goes over the beginning of a statement
   some_run : (ts : List Token) → IsBeginning by_itself hs n ts → (x : State) × (run hs n (Some start) ts ≡ Some x)
   some_run ts b = by (run hs n (Some start) ts) refl
     where
@@ -129,7 +137,7 @@ module _ (hs : List Heading) (n : ℕ) where
       let c = cut_behind line (t ∷ []) after r in
       let more = with_glyph (code ":") [] in
       record {
-        text = _;
+        text = cut c.l line more;
         rest = tokens_at c.column more;
         read = c.read more (tt, tt) (name_numbers t l (tokens_at c.column more) e);
         lawful = (Some l, nothing, a, tt, (sym e, (refl, tt)));
@@ -140,12 +148,14 @@ module _ (hs : List Heading) (n : ℕ) where
   behind_label t u ts f (None, s, a, h, sp) = no_label hs n t u ts s h sp (sym f)
   behind_label t u ts f (Some l, s, a, h, sp) = (s, h, sp.1.1)
 
+  -- and the beginning of a line goes on behind its label as a statement begins
   begins_behind : (t u : Token) (l : List ℕ) (ts : List Token) → t.word ≡ word.Name l → u.word ≡ glyph ":" →
       IsBeginning in_body hs n (t ∷ u ∷ ts) → IsBeginning by_itself hs n ts
   begins_behind t u l ts e f b =
       let whole = as_whole b.text (ts ++ b.rest) (after_label t u l e f b.read) in
       record { text = whole.line; rest = b.rest; read = whole.read; lawful = behind_label t u (ts ++ b.rest) f b.lawful }
 
+  -- where the tokens behind a label are no statement, there is a last one
   past_behind : (t u : Token) (ts : List Token) → (IsLawful by_itself hs n ts → ⊥) → past_last (t ∷ u ∷ ts) ≡ past_last ts
   past_behind t u [] never = absurd (never (nothing, tt, tt))
   past_behind t u (v ∷ vs) never = refl
@@ -162,6 +172,7 @@ module _ (hs : List Heading) (n : ℕ) where
       (labelled_begins line t u l ts [] (subst (λ us. IsRead line (t ∷ u ∷ us)) (sym (append-nil ts)) r) w a e f b)
       (λ c. never (behind_label t u ts f c)) (at ∙ sym (past_behind t u ts never))
 
+  -- the same of a line that has a label
   pub label_stops : (line : List ℕ) (ts : List Token) (l : List ℕ) (column : ℕ) → IsRead line ts → AreWords ts → label_of ts ≡ Some l →
       StopsAt by_itself hs n (drop 2 ts) column → StopsAt in_body hs n ts column
   label_stops line [] l column r w h s = absurd (some_none h)
@@ -195,6 +206,7 @@ module _ (hs : List Heading) (n : ℕ) where
     lawful = unlabelled_lawful (t ∷ ((bs ++ v ∷ []) ++ b.rest)) (same_label t bs v after b.rest ∙ h) b.lawful;
   }
 
+  -- the beginning of a statement begins a line of a body
   statement_begins : (ts : List Token) → IsBeginning by_itself hs n ts → IsBeginning in_body hs n ts
   statement_begins ts b = record { text = b.text; rest = b.rest; read = b.read; lawful = (None, b.lawful.0, tt, b.lawful.1, b.lawful.2) }
 
@@ -205,6 +217,7 @@ module _ (hs : List Heading) (n : ℕ) where
   named_runs p l (Some (suc zero)) h = (_, refl)
   named_runs p l (Some (suc (suc k))) h = absurd (grind (arith, nat_tests))
 
+  -- so does such a first token
   name_begins_statement : (line : List ℕ) (t : Token) (l : List ℕ) (after : List Token) → IsRead line (t ∷ after) → AreWords (t ∷ []) → word.Name l ≡ t.word →
       begins_between hs (t ∷ after) ≡ false → IsBeginning by_itself hs n (t ∷ [])
   name_begins_statement line t l after r w e h =
@@ -229,18 +242,21 @@ module _ (hs : List Heading) (n : ℕ) where
 
   -- ---- A name that no statement begins with ----
 
+  -- the reader doesn't take such a name first
   named_stops : (p : Place) (l : List ℕ) (k : Option ℕ) → has_left k ≡ true → taken start p (named l k) ≡ None
   named_stops p l None h = absurd (both h)
   named_stops p l (Some zero) h = absurd (both h)
   named_stops p l (Some (suc zero)) h = absurd (both h)
   named_stops p l (Some (suc (suc k))) h = refl
 
+  -- no statement begins with it
   no_statement : (t : Token) (l : List ℕ) (ts : List Token) → t.word ≡ word.Name l → has_left (arguments_of hs l) ≡ true → IsLawful by_itself hs n (t ∷ ts) → ⊥
   no_statement t l ts e h (s, i, sp) =
       let p : Place = record { line = n; column = t.from } in
       let none : step hs n start t ≡ None = subst (λ v. taken start p (sort hs v) ≡ None) (sym e) (named_stops p l (arguments_of hs l) h) in
       none_clash (sym (read_complete hs n s i (t ∷ ts) sp) ∙ ap (option_and_then finished) (ap (λ y. run hs n y ts) none ∙ run_none hs n ts))
 
+  -- what such a first token is
   is_between : (w : Word) → first_between hs w ≡ true → (l : List ℕ) × (w ≡ word.Name l) × (has_left (arguments_of hs l) ≡ true)
   is_between (word.Name l) h = (l, refl, h)
   is_between (word.Numbers zs) h = absurd (both h)

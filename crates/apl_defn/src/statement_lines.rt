@@ -17,6 +17,9 @@ use apl_read::ReadFault;
 use apl_tree::{Lookup, statement_among};
 use std::alloc::Global;
 
+#[cfg(test)]
+mod tests;
+
 /// The statement or command that a line outside definitions is, or the column where it stops being one.
 pub(crate) fn read_outside(
     alloc: Global,

@@ -1,5 +1,5 @@
 -- The tokens that follow a label are those of a line of their own, with blanks in the label's place.
-use Rattle.std.proofs.Common.{◌≡◌, ℕ, zero, suc, ◌+◌, ◌-◌, ◌≤◌, ◌==◌, Bool, true, false, List, [], ◌∷◌, ◌++◌, ℤ, refl, sym, ap, subst, ◌∙◌, arith}
+use Rattle.std.proofs.Common.{◌≡◌, ℕ, zero, suc, ◌+◌, ◌-◌, ◌≤◌, ◌==◌, Bool, true, false, List, [], ◌∷◌, ℤ, refl, sym, ap, subst, ◌∙◌, arith}
 use Rattle.apl_model.specs.Characters.{code, is_blank}
 use Rattle.apl_model.specs.Tokens.{Found, number, text, name, glyph, fault, Piece, pieces_after, pieces, beginning, number_before, tokens_of_pieces, IsSound, AreSound, IsRead}
 use Rattle.apl_model.specs.declared.tokens.Token.{Token}

@@ -1,8 +1,7 @@
 -- One more thing that is open, and one more position.
-use Rattle.std.proofs.Common.{◌≡◌, List, [], ◌∷◌, ◌++◌, Option, None, Some, refl, ap}
+use Rattle.std.proofs.Common.{◌≡◌, List, [], ◌∷◌, ◌++◌, Option, refl, ap}
 use Rattle.apl_model.proofs.Bridge.{slot_with, positions_with}
 use Rattle.apl_model.proofs.Machine as machine
-use Rattle.apl_model.specs.Mirror.{tree_of}
 use Rattle.apl_model.specs.Tree.{position}
 use Rattle.apl_model.specs.declared.trees.Expr.{Expr}
 use Rattle.apl_tree.specs.Mirror.{open_on, all_on}

@@ -1,13 +1,13 @@
 -- Where the reader stops is the place at which the tokens stop being the beginning of a statement.
-use Rattle.std.proofs.Common.{◌≡◌, ℕ, zero, suc, ◌+◌, ◌≤◌, List, [], ◌∷◌, ◌++◌, length, take, Option, None, Some, ℤ, refl, sym, ap, subst, ◌∙◌, arith, append-nil, append_assoc}
+use Rattle.std.proofs.Common.{◌≡◌, ℕ, zero, suc, List, [], ◌∷◌, ◌++◌, take, Option, None, Some, ℤ, sym, ap, subst, ◌∙◌, arith, append-nil, append_assoc}
 use Rattle.std.specs.Option.{option_and_then}
 use Rattle.apl_base.specs.declared.cells.Kind.{Kind}
 use Rattle.apl_base.specs.declared.cells.Kind.TheVariants as kind
 use Rattle.apl_base.specs.declared.faults.Place.{Place}
 use Rattle.apl_model.proofs.Complete.{read_complete}
-use Rattle.apl_model.proofs.Machine.{Stack, bottom, waiting, in_parenthesis, in_subscript, Along, Status, first, must, may, operand, glyph_first, glyph_after, axis_or_none, axis_opened, axis_given, after_jot, after_jot_dot, after_dot, after_quad, State, state, literal, taken, taken_by, axis_number, sort, step, run, start, finished, read}
-use Rattle.apl_model.specs.Refusal.{IsBeginning, StopsAt, at_token, past_the_last, by_itself, past_last, IsLawful}
-use Rattle.apl_model.specs.Tokens.{Piece, pieces, pieces_after, tokens_of_pieces, tokens, IsRead, AreSound}
+use Rattle.apl_model.proofs.Machine.{Stack, bottom, waiting, in_parenthesis, in_subscript, Along, Status, first, must, may, operand, glyph_first, glyph_after, axis_or_none, axis_opened, axis_given, after_jot, after_jot_dot, after_dot, after_quad, State, literal, taken, taken_by, axis_number, sort, step, run, start, finished, read}
+use Rattle.apl_model.specs.Refusal.{IsBeginning, StopsAt, at_token, past_the_last, by_itself, IsLawful}
+use Rattle.apl_model.specs.Tokens.{Piece, pieces, pieces_after, tokens_of_pieces, IsRead, AreSound}
 use Rattle.apl_model.specs.Tree.{Statement}
 use Rattle.apl_model.specs.declared.tokens.Heading.{Heading}
 use Rattle.apl_model.specs.declared.tokens.Token.{Token}

@@ -1,5 +1,5 @@
 -- What the reader has read so far, as marks, and which of its states are lawful.
-use Rattle.std.proofs.Common.{◌≡◌, ℕ, List, [], ◌∷◌, ◌++◌, Option, None, Some, refl, sym, ap, subst, ◌∙◌, append_assoc}
+use Rattle.std.proofs.Common.{◌≡◌, ℕ, List, [], ◌∷◌, ◌++◌, Option, None, Some, refl, sym, subst, ◌∙◌, append_assoc}
 use Rattle.apl_base.specs.Number.{IsNumber}
 use Rattle.apl_base.specs.declared.faults.Place.{Place}
 use Rattle.apl_base.specs.declared.rows.Dya.{Dya}
@@ -7,7 +7,7 @@ use Rattle.apl_base.specs.declared.rows.Mon.{Mon}
 use Rattle.apl_model.proofs.Machine.{Wait, for_call, for_monadic, for_dyadic, for_reduction, for_outer, for_inner, for_assignment, for_indexed, for_output, Stack, bottom, waiting, in_parenthesis, in_subscript, Along, reduces, reverses, rotates, compresses, expands, Status, first, must, may, operand, glyph_first, glyph_after, axis_or_none, axis_opened, axis_given, after_jot, after_jot_dot, after_dot, after_quad, State}
 use Rattle.apl_model.specs.Grammar.{IsAxis, IsMonadic, IsDyadic, IsOperand, IsVariable, IsFunction, HasPosition, IsExpression, ArePositions}
 use Rattle.apl_model.specs.Spelling.{Mark, at, some, glyph, mon_glyph, dya_glyph, along, monadic_marks, dyadic_marks, spelling, slot_spelling, position_spelling, Fits, Spell}
-use Rattle.apl_model.specs.Tree.{Slot, elided, given, Positions, no_position, position}
+use Rattle.apl_model.specs.Tree.{elided, given, Positions, no_position, position}
 use Rattle.apl_model.specs.declared.functions.Axis.{Axis}
 use Rattle.apl_model.specs.declared.functions.Axis.TheVariants as axis
 use Rattle.apl_model.specs.declared.tokens.Heading.{Heading}

@@ -1,12 +1,12 @@
 -- What the sort of a token says of its word.
-use Rattle.std.proofs.Common.{◌≡◌, ℕ, ◌==◌, Bool, true, false, cond, IsTrue, List, [], ◌∷◌, Option, None, Some, refl, sym, subst, eqb}
+use Rattle.std.proofs.Common.{◌≡◌, ℕ, ◌==◌, Bool, true, false, cond, IsTrue, List, [], ◌∷◌, Option, None, Some, refl, sym, subst}
 use Rattle.std.proofs.lemmas.Bool.{eqb-true}
 use Rattle.apl_base.specs.declared.cells.Kind.TheVariants as kind
 use Rattle.apl_base.specs.declared.faults.Place.{Place}
 use Rattle.apl_model.proofs.Machine.{Sort, literal, named, scalar, plain, turn, slash, slash_first, backslash, jot, dot, assign, arrow, quad, open_paren, close_paren, open_bracket, close_bracket, semicolon, other, Entry, entries, sort_in, sort}
 use Rattle.apl_model.specs.Characters.{is_name}
 use Rattle.apl_model.specs.Grammar.{IsLiteral, IsMonadic, IsDyadic, arguments_of}
-use Rattle.apl_model.specs.Spelling.{Mark, at, glyph, dya_glyph, monadic_marks, dyadic_marks, literal_word}
+use Rattle.apl_model.specs.Spelling.{at, glyph, dya_glyph, monadic_marks, dyadic_marks, literal_word}
 use Rattle.apl_model.specs.declared.functions.DyaFn.{DyaFn}
 use Rattle.apl_model.specs.declared.functions.MonFn.{MonFn}
 use Rattle.apl_model.specs.declared.tokens.Heading.{Heading}

@@ -9,7 +9,7 @@ use Rattle.apl_base.specs.declared.rows.Mon.{Mon}
 use Rattle.apl_model.proofs.Machine.{Sort, literal, named, scalar, plain, turn, slash, slash_first, backslash, jot, dot, assign, arrow, quad, open_paren, close_paren, open_bracket, close_bracket, semicolon, other, sort, Wait, for_call, for_monadic, for_dyadic, for_reduction, for_outer, for_inner, for_assignment, for_indexed, for_output, filled, Stack, bottom, waiting, in_parenthesis, in_subscript, Along, reduces, reverses, rotates, compresses, expands, along_axis, Status, first, must, may, operand, glyph_first, glyph_after, axis_or_none, axis_opened, axis_given, after_jot, after_jot_dot, after_dot, after_quad, State, state, begun, wind, then_position, close_parenthesis, close_subscript, next_position, assigned, followed, may_begin, first_taken, after_first, after_scalar, axis_begun, axis_number, axis_taken, axis_closed, dot_taken, outer_taken, inner_taken, quad_taken, taken_by, taken, step, run, start, finished, finished_with, read}
 use Rattle.apl_model.specs.Grammar.{IsLiteral, IsOperand, IsExpression, IsStatement, HasPosition, IsPosition, ArePositions}
 use Rattle.apl_model.specs.Spelling.{Mark, at, some, glyph, mon_glyph, dya_glyph, dyadic_marks, literal_word, spelling, slot_spelling, position_spelling, statement_spelling, Spell}
-use Rattle.apl_model.specs.Tree.{Tree, constant, variable, call, parenthesis, monadic, dyadic, reduction, outer_product, inner_product, subscript, assignment, indexed_assignment, output, Slot, elided, given, Positions, no_position, position, Statement, nothing, branch, expression}
+use Rattle.apl_model.specs.Tree.{Tree, variable, subscript, Slot, elided, given, Positions, no_position, position, Statement}
 use Rattle.apl_model.specs.declared.functions.Axis.{Axis}
 use Rattle.apl_model.specs.declared.functions.Axis.TheVariants as axis
 use Rattle.apl_model.specs.declared.functions.DyaFn.TheVariants as two
@@ -18,8 +18,7 @@ use Rattle.apl_model.specs.declared.tokens.Heading.{Heading}
 use Rattle.apl_model.specs.declared.tokens.Token.{Token}
 use Rattle.apl_model.specs.declared.tokens.Word.{Word}
 use Rattle.apl_model.specs.declared.tokens.Word.TheVariants as word
-use Rattle.apl_model.specs.declared.trees.Literal.{Literal}
-use Rattle.apl_tree.proofs.Shown.{open_positions, wait_marks, branch_marks, stack_marks, along_marks, number_marks, marks, Agree, IsNumbered, IsWait, IsStack, IsAlong, IsStatus, IsState, Imply, imply_refl, imply_append, after_same, imply_eq, imply_by, last_on, last_in, spell_implied, spell_more}
+use Rattle.apl_tree.proofs.Shown.{open_positions, wait_marks, stack_marks, along_marks, number_marks, marks, Agree, IsNumbered, IsWait, IsStack, IsAlong, IsStatus, IsState, Imply, after_same, imply_eq, imply_by, last_on, last_in, spell_implied, spell_more}
 use Rattle.apl_tree.proofs.SortFacts.{IsWord, AreWords, IsSortOf, sort_holds}
 
 -- ---- A form with its right argument ----

@@ -1,5 +1,5 @@
 -- The pieces that the first tokens of a line come from.
-use Rattle.std.proofs.Common.{◌≡◌, ℕ, zero, suc, List, [], ◌∷◌, ◌++◌, take, ℤ, refl, sym, ap, subst, ◌∙◌}
+use Rattle.std.proofs.Common.{◌≡◌, ℕ, suc, List, [], ◌∷◌, ◌++◌, take, ℤ, refl, sym, ap, subst, ◌∙◌}
 use Rattle.apl_model.specs.Tokens.{Found, number, text, name, glyph, fault, Piece, number_before, tokens_of_pieces, IsSound, AreSound}
 use Rattle.apl_model.specs.declared.tokens.Token.{Token}
 use Rattle.apl_model.specs.declared.tokens.Word.{Word}

@@ -2,8 +2,7 @@
 use Rattle.std.proofs.Common.{◌≡◌, ℕ, ◌+◌, List, [], ◌∷◌, Option, None, Some, ◌⊎◌, inl, inr, refl, sym, ap, subst, ◌∙◌, arith, pos}
 use Rattle.std.specs.Option.{option_and_then}
 use Rattle.apl_base.specs.declared.cells.Kind.TheVariants as kind
-use Rattle.apl_base.specs.declared.faults.Place.{Place}
-use Rattle.apl_model.proofs.Machine.{literal, sort, Wait, for_dyadic, for_outer, for_inner, for_output, filled, Stack, bottom, waiting, in_parenthesis, in_subscript, Along, reduces, along_axis, Status, first, must, may, operand, glyph_first, glyph_after, axis_or_none, axis_opened, axis_given, after_jot, after_jot_dot, after_dot, after_quad, State, state, awaits, then_position, taken, step, run, finished}
+use Rattle.apl_model.proofs.Machine.{literal, sort, Wait, for_dyadic, for_outer, for_inner, for_output, filled, Stack, bottom, waiting, in_parenthesis, in_subscript, Along, reduces, along_axis, Status, first, must, may, operand, glyph_first, glyph_after, axis_or_none, axis_opened, axis_given, after_jot, after_jot_dot, after_dot, after_quad, State, state, awaits, then_position, taken, run, finished}
 use Rattle.apl_model.specs.Characters.{code}
 use Rattle.apl_model.specs.Grammar.{IsLiteral}
 use Rattle.apl_model.specs.Spelling.{glyph}
@@ -17,7 +16,6 @@ use Rattle.apl_model.specs.declared.tokens.Heading.{Heading}
 use Rattle.apl_model.specs.declared.tokens.Token.{Token}
 use Rattle.apl_model.specs.declared.tokens.Word.TheVariants as word
 use Rattle.apl_model.specs.declared.trees.Literal.{Literal}
-use Rattle.apl_base.specs.Number.{IsNumber}
 use Rattle.apl_tree.proofs.SortFacts.{AreWords}
 use lib.Signed.{le_z_yes}
 

@@ -1,6 +1,5 @@
 -- The reader of proofs that the values of the code stand for.
 use Rattle.std.specs.Prelude.{List, [], ◌∷◌, Option, None, Some}
-use Rattle.apl_base.specs.declared.faults.Place.{Place}
 use Rattle.apl_model.proofs.Bridge.{slot_with, positions_with}
 use Rattle.apl_model.proofs.Machine as machine
 use Rattle.apl_model.specs.Mirror.{tree_of, statement_of}

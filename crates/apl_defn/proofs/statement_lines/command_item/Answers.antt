@@ -1,4 +1,4 @@
-use Rattle.std.proofs.Common.{ℕ, List}
+use Rattle.std.proofs.Common.{List}
 use Rattle.std.proofs.lemmas.Result.{err_from_is_err_and}
 use Rattle.apl_model.specs.Refusal as refusal
 use Rattle.apl_model.specs.declared.tokens.Heading.{Heading}

@@ -1,7 +1,7 @@
 use Rattle.std.proofs.Common.{◌≡◌, sym, subst, ◌∙◌, false, true}
 use Rattle.std.proofs.lemmas.Result.{err_from_is_err_and}
 use Rattle.apl_model.specs.Refusal as refusal
-use Rattle.apl_defn.specs.LineStart.{begins_between, second_column}
+use Rattle.apl_defn.specs.LineStart.{begins_between}
 use Rattle.apl_defn.proofs.BodyLines.{unlabelled_stops, between_stops}
 use Rattle.apl_defn.proofs.Stopped.{stopped_so}
 use Rattle.apl_defn.proofs.statement_lines.unlabelled_line.Goals as goal

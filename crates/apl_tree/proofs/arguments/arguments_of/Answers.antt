@@ -1,5 +1,4 @@
-use Rattle.std.proofs.Common.{◌≡◌, ◌<◌, length, sym, ◌∙◌, ap, arith, false, true, IsTrue}
-use Rattle.apl_model.specs.Grammar as grammar
+use Rattle.std.proofs.Common.{◌≡◌, ◌<◌, length, sym, ◌∙◌, arith, false, true}
 use Rattle.apl_tree.proofs.Heads.{heads_here, heads_on}
 use Rattle.apl_tree.proofs.arguments.arguments_of.Goals as goal
 

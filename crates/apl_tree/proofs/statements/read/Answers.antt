@@ -1,10 +1,10 @@
-use Rattle.std.proofs.Common.{◌≡◌, ◌+◌, ◌<◌, ◌≤◌, length, take, drop, Some, None, Option, refl, sym, ap, ◌∙◌, arith}
+use Rattle.std.proofs.Common.{◌≡◌, ◌+◌, ◌<◌, ◌≤◌, length, take, drop, Some, None, refl, sym, ap, ◌∙◌, arith}
 use Rattle.std.proofs.lemmas.List.{take_all}
 use Rattle.apl_base.specs.declared.faults.Place.{Place}
 use Rattle.apl_model.proofs.Machine as machine
 use Rattle.apl_tree.proofs.Runs.{run-more, cut_at}
-use Rattle.apl_tree.specs.Mirror.{reader_of, reading_of, sort_of, ending_of}
-use Rattle.apl_tree.specs.Outcome.{Stops, at_token, at_end}
+use Rattle.apl_tree.specs.Mirror.{reader_of, reading_of, ending_of}
+use Rattle.apl_tree.specs.Outcome.{at_token, at_end}
 use Rattle.apl_tree.proofs.statements.read.Goals as goal
 
 pub returns-in-None : goal.returns-in-None

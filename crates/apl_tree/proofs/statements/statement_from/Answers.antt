@@ -1,6 +1,5 @@
-use Rattle.std.proofs.Common.{◌≡◌, ◌-◌, ◌≤◌, ℕ, List, length, take, drop, ap, subst, ◌∙◌, arith, length-drop}
+use Rattle.std.proofs.Common.{◌≡◌, ◌-◌, ℕ, List, length, take, drop, ap, subst, ◌∙◌, arith, length-drop}
 use Rattle.std.proofs.lemmas.List.{take_all}
-use Rattle.apl_model.proofs.Machine.{read}
 use Rattle.apl_model.specs.Grammar.{IsStatement}
 use Rattle.apl_model.specs.Mirror.{statement_of}
 use Rattle.apl_model.specs.Spelling.{statement_spelling, Spell}
@@ -9,7 +8,6 @@ use Rattle.apl_model.specs.declared.tokens.Token.{Token}
 use Rattle.apl_tree.proofs.Labels.{as_whole}
 use Rattle.apl_tree.proofs.Places.{stops_at}
 use Rattle.apl_tree.proofs.Runs.{stops_without}
-use Rattle.apl_tree.proofs.SortFacts.{AreWords}
 use Rattle.apl_tree.proofs.Sound.{read_sound}
 use Rattle.apl_tree.proofs.Words.{text_words}
 use Rattle.apl_tree.specs.Outcome.{IsReading}
