@@ -1,7 +1,10 @@
-pub mod Reading
-pub mod Earliest
-pub mod NameRules
-pub mod LineStart
-pub mod HeaderSteps
 pub mod CommandSteps
+pub mod Earliest
+pub mod HeaderSteps
+pub mod LineStart
+pub mod NameRules
 pub mod Occurrences
+pub mod PartRefusals
+pub mod Parts
+pub mod Passes
+pub mod Reading

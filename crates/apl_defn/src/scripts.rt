@@ -4,9 +4,20 @@ ghost use Rattle.apl_model.specs.Refusal.{IsAccepted, IsFirst, IsLineRefusal, Is
 ghost use Rattle.apl_tree.specs.Outcome.{IfRefused};
 ghost use Rattle.apl_defn.specs.Reading.{AreReadLines, AreAccepted};
 
+use crate::classes::classes_from;
+use crate::copies::copy_lines;
+use crate::forms::read_forms;
+use crate::uses::read_uses;
+use apl_base::{Cause, Refusal};
 use apl_model::{Lines, Script};
-use apl_read::ReadFault;
+use apl_read::{ReadFault, tokens};
+use apl_tree::Lookup;
+use sqlite_items::Items;
 use std::alloc::Global;
+use std::collections::VecDeque;
+
+/// The most bytes that a script may have.
+const MOST_BYTES: usize = 1 << 20;
 
 /// The script that lines are: its statements, commands and definitions, or the first refusal of their definitions,
 /// names and statements. Want of memory is the one free answer.
@@ -15,7 +26,20 @@ pub fn script(alloc: Global, lines: &Lines) -> Result<Script, ReadFault>
     ensures accepted { IfOk result (λ s. AreAccepted lines.now.lines (script_of s)) }
     ensures refused { IfRefused result (IsFirst (IsLineRefusal lines.now.lines)) }
 {
-    unreachable!()
+    let given = lines.lines.as_slice();
+    let forms = read_forms(alloc, given)?;
+    if let Some(refusal) = forms.earliest {
+        return Err(ReadFault::Refused { refusal });
+    }
+    let lookup = Lookup::of(alloc, classes_from(alloc, forms.headers.as_slice())?)?;
+    let uses = read_uses(alloc, given, VecDeque::from_vec(forms.headers), &lookup)?;
+    if let Some(refusal) = uses.earliest {
+        return Err(ReadFault::Refused { refusal });
+    }
+    Ok(Script {
+        lines: Items::from_vec(copy_lines(alloc, given)?),
+        items: Items::from_vec(uses.items),
+    })
 }
 
 /// The script that bytes are, or the first of all their refusals: that they are too long, that they or their
@@ -24,5 +48,15 @@ pub fn script_of_bytes(alloc: Global, bytes: &[u8]) -> Result<Script, ReadFault>
     ensures accepted { IfOk result (λ s. IsAccepted bytes.now (script_of s)) }
     ensures refused { IfRefused result (IsFirst (IsRefusal bytes.now)) }
 {
-    unreachable!()
+    if bytes.len() > MOST_BYTES {
+        return Err(ReadFault::Refused {
+            refusal: Refusal {
+                line: 0,
+                column: 0,
+                cause: Cause::TooLong,
+            },
+        });
+    }
+    let lines = tokens(alloc, bytes)?;
+    script(alloc, &lines)
 }
