@@ -5,7 +5,7 @@ use Rattle.std.proofs.lemmas.Bool.{eqb-true}
 use Rattle.std.proofs.lemmas.Bool.Decides.{nat_tests}
 use Rattle.apl_base.specs.declared.faults.Place.{Place}
 use Rattle.apl_model.proofs.Complete.{read_complete}
-use Rattle.apl_model.proofs.Machine.{State, named, taken, sort, step, run, start, finished, read}
+use Rattle.apl_model.proofs.Machine.{State, named, taken, sort, step, run, start, finished}
 use Rattle.apl_model.proofs.Unique.{no_label, none_clash, run_none}
 use Rattle.apl_model.specs.Characters.{code, is_name}
 use Rattle.apl_model.specs.Grammar.{arguments_of}

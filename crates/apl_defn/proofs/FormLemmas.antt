@@ -1,5 +1,5 @@
 -- What the first pass finds, with one part more.
-use Rattle.std.proofs.Common.{◌≡◌, ℕ, true, false, Bool, List, [], ◌∷◌, ◌++◌, map, Option, None, Some, ◌⊎◌, inl, inr, ◌↔◌, refl, sym, ap, subst, ◌∙◌, arith, append_assoc, append-nil}
+use Rattle.std.proofs.Common.{◌≡◌, ℕ, true, false, List, [], ◌∷◌, ◌++◌, Option, None, Some, ◌⊎◌, inl, inr, ◌↔◌, refl, sym, ap, subst, ◌∙◌, append_assoc, append-nil}
 use Rattle.std.specs.Prelude.{slice_get, if◌then◌else◌}
 use Rattle.std.specs.List.{IsAmong}
 use Rattle.apl_base.specs.declared.faults.Cause.TheVariants as cause
@@ -7,17 +7,17 @@ use Rattle.apl_base.specs.declared.faults.Refusal.{Refusal}
 use Rattle.apl_model.proofs.Accepted.{among_here, among_there, among_cases, among_none, no_stop, part_from}
 use Rattle.apl_model.proofs.Rows.{one_stop, before_after}
 use Rattle.apl_model.proofs.Unique.{one_header}
-use Rattle.apl_model.specs.Refusal.{refusal, first_line, StopsAt, IsDefined, Heads, before_own_name, IsFirst, order}
-use Rattle.apl_model.specs.Script.{Part, alone, defined, parts, opens, IsHeadOf}
+use Rattle.apl_model.specs.Refusal.{refusal, first_line, StopsAt, Heads, before_own_name, order}
+use Rattle.apl_model.specs.Script.{Part, alone, defined, parts, IsHeadOf}
 use Rattle.apl_model.specs.declared.scripts.Header.{Header}
 use Rattle.apl_model.specs.declared.tokens.Line.{Line}
 use Rattle.apl_model.specs.declared.tokens.Token.{Token}
 use Rattle.apl_read.specs.Refusals.{IsFirstIfAny}
-use Rattle.apl_defn.proofs.EarlierLemmas.{first_like, earlier_first, none_first, only_first}
-use Rattle.apl_defn.proofs.PhaseLemmas.{first_part_more, no_part, among_split, snoc_split}
+use Rattle.apl_defn.proofs.EarlierLemmas.{first_like, earlier_first, only_first}
+use Rattle.apl_defn.proofs.PhaseLemmas.{first_part_more, no_part}
 use Rattle.apl_defn.specs.Earliest.{earlier, is_not_after}
 use Rattle.apl_defn.specs.NameRules.{IsRepeated}
-use Rattle.apl_defn.specs.PartRefusals.{OfSome, AfterOthers, IsLone, IsNoHeader, IsNested, IsSecondHeading, IsDeclaredTwice, IsNeverClosed, IsFormRefusal}
+use Rattle.apl_defn.specs.PartRefusals.{OfSome, AfterOthers, IsLone, IsNoHeader, IsNested, IsSecondHeading, IsNeverClosed, IsFormRefusal}
 use Rattle.apl_defn.specs.Passes.{IsReadPart, AreHeaders, AreForms}
 use Rattle.apl_defn.specs.Reading.{IsReadLine}
 use Rattle.apl_defn.specs.declared.forms.Forms.{Forms}

@@ -1,11 +1,10 @@
 -- How the parts of a script come one after another.
-use Rattle.std.proofs.Common.{◌≡◌, ℕ, zero, suc, ◌+◌, ◌-◌, ◌<◌, ◌≤◌, Bool, true, false, not, cond, nat_lt, List, [], ◌∷◌, length, take, drop, get_or, Option, None, Some, refl, sym, ap, subst, ◌∙◌, arith}
+use Rattle.std.proofs.Common.{◌≡◌, ℕ, zero, suc, ◌+◌, ◌-◌, ◌<◌, ◌≤◌, Bool, true, false, not, cond, nat_lt, List, [], ◌∷◌, length, take, drop, get_or, None, Some, refl, sym, ap, ◌∙◌, arith}
 use Rattle.std.specs.List.{position, position_or_len}
 use Rattle.std.proofs.lemmas.Bool.{ltb-true, ltb-false}
 use Rattle.std.proofs.lemmas.Grind.{common_steps}
 use Rattle.apl_model.specs.Script.{opens, closes, is_empty, Part, alone, defined, Inside, parts, inside}
 use Rattle.apl_model.specs.declared.tokens.Line.{Line}
-use Rattle.apl_model.specs.declared.tokens.Token.{Token}
 
 abbrev closing : Line → Bool
 closing l = closes l.tokens

@@ -1,5 +1,5 @@
 -- The refusals of all parts of a script are those of its lines.
-use Rattle.std.proofs.Common.{◌≡◌, ℕ, ◌+◌, ◌<◌, ◌≤◌, Bool, true, false, List, [], ◌∷◌, ◌++◌, length, take, get_or, Option, None, Some, ◌⊎◌, inl, inr, ◌↔◌, refl, sym, ap, subst, ◌∙◌, arith, append_assoc}
+use Rattle.std.proofs.Common.{◌≡◌, ℕ, ◌+◌, ◌<◌, ◌≤◌, Bool, true, false, List, [], ◌∷◌, ◌++◌, length, take, get_or, Option, None, Some, ◌⊎◌, inl, inr, refl, sym, ap, subst, ◌∙◌, append_assoc}
 use Rattle.std.specs.List.{IsAmong}
 use Rattle.std.specs.Prelude.{if◌then◌else◌}
 use Rattle.std.specs.Option.{IsSome}
@@ -11,7 +11,7 @@ use Rattle.apl_model.proofs.Rows.{before_after}
 use Rattle.apl_model.proofs.Unique.{one_header}
 use Rattle.apl_model.specs.Environment.{is_same_name}
 use Rattle.apl_model.specs.Grammar.{arguments_of}
-use Rattle.apl_model.specs.Refusal.{outside, in_body, StopsAt, IsLineOf, HasStatements, IsHeaderRefusal, no_header, lone, nested, IsOpenDefinition, never_closed, IsDefined, Heads, Occurrence, IsDoubleName, second_heading, second_occurrence, IsNameClass, assigned, erased, declared, IsDeep, opened, AreClasses, IsGrammarRefusal, outside_definitions, in_a_body, IsLineRefusal, header, double_name, open_definition, name_class, deep, grammar}
+use Rattle.apl_model.specs.Refusal.{outside, in_body, StopsAt, HasStatements, IsHeaderRefusal, no_header, lone, nested, IsOpenDefinition, never_closed, IsDefined, Heads, IsDoubleName, second_heading, second_occurrence, IsNameClass, assigned, erased, declared, IsDeep, opened, AreClasses, IsGrammarRefusal, outside_definitions, in_a_body, IsLineRefusal, header, double_name, open_definition, name_class, deep, grammar}
 use Rattle.apl_model.specs.Script.{Part, alone, defined, parts, heading_of, IsHeadOf}
 use Rattle.apl_model.specs.declared.scripts.Header.{Header}
 use Rattle.apl_model.specs.declared.tokens.Heading.{Heading}
@@ -19,8 +19,8 @@ use Rattle.apl_model.specs.declared.tokens.Line.{Line}
 use Rattle.apl_read.specs.Refusals.{IsFirstIfAny}
 use Rattle.apl_defn.proofs.EarlierLemmas.{first_like, earlier_first}
 use Rattle.apl_defn.specs.Earliest.{earlier}
-use Rattle.apl_defn.specs.NameRules.{IsRepeated, IsAssigned, IsErased, IsDeclared, IsTooDeep, IsHeading}
-use Rattle.apl_defn.specs.PartRefusals.{OfSome, AfterOthers, IsLone, IsNoHeader, IsNested, IsSecondHeading, IsDeclaredTwice, IsNeverClosed, IsFormRefusal, IsStopped, IsOutsideRefusal, IsBodyRefusal, IsDeclaredElsewhere, IsUseRefusal}
+use Rattle.apl_defn.specs.NameRules.{IsAssigned, IsTooDeep, IsHeading}
+use Rattle.apl_defn.specs.PartRefusals.{OfSome, AfterOthers, IsFormRefusal, IsUseRefusal}
 
 -- ---- One more part, one more line ----
 

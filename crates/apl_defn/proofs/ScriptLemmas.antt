@@ -1,7 +1,7 @@
 -- A script is read where both passes find no refusal, and else the first one is what they find.
-use Rattle.std.proofs.Common.{◌≡◌, ℕ, zero, suc, ◌<◌, ◌≤◌, ◌^◌, length, inl, inr, true, false, List, [], ◌∷◌, Option, None, Some, refl, sym, ap, subst, ◌∙◌, arith}
+use Rattle.std.proofs.Common.{◌≡◌, ℕ, ◌≤◌, ◌^◌, length, true, List, [], ◌∷◌, Option, None, Some, refl, sym, subst}
 use Rattle.std.specs.Prelude.{map, Result, Ok, Err, IfOk}
-use Rattle.std.specs.List.{IsAmong, AllZip}
+use Rattle.std.specs.List.{IsAmong}
 use Rattle.std.specs.Str.Lossy.{utf8_valid_len}
 use Rattle.apl_base.specs.declared.faults.Cause.TheVariants as cause
 use Rattle.apl_base.specs.declared.faults.Refusal.{Refusal}
@@ -9,12 +9,11 @@ use Rattle.apl_model.proofs.Accepted.{part_from}
 use Rattle.apl_model.specs.Mirror.{item_of}
 use Rattle.apl_model.proofs.Rows.{first_in_reading, first_in_lines}
 use Rattle.apl_model.specs.Lines.{lines_of}
-use Rattle.apl_model.specs.Refusal.{refusal, IsReadingRefusal, never_closed, AreClasses, IsLineRefusal, double_name, name_class, deep, IsRefusal, too_long, rank, phase, order, IsNotAfter, IsFirst, IsAccepted}
+use Rattle.apl_model.specs.Refusal.{refusal, IsReadingRefusal, never_closed, AreClasses, IsLineRefusal, double_name, name_class, deep, IsRefusal, IsFirst, IsAccepted}
 use Rattle.apl_model.specs.Script.{Part, alone, defined, parts, opens, heading_of, IsScript}
 use Rattle.apl_model.specs.Tokens.{IsRead}
 use Rattle.apl_model.specs.Tree.{Script}
 use Rattle.apl_model.specs.declared.scripts.Header.{Header}
-use Rattle.apl_model.specs.declared.scripts.ScriptItem.{ScriptItem}
 use Rattle.apl_model.specs.declared.tokens.Heading.{Heading}
 use Rattle.apl_model.specs.declared.tokens.Line.{Line}
 use Rattle.apl_model.specs.declared.tokens.Token.{Token}

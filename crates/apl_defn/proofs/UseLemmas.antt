@@ -4,7 +4,7 @@ use Rattle.std.proofs.lemmas.List.{map-append}
 use Rattle.std.specs.List.{IsAmong, AllZip}
 use Rattle.apl_base.specs.declared.faults.Cause.TheVariants as cause
 use Rattle.apl_base.specs.declared.faults.Refusal.{Refusal}
-use Rattle.apl_model.proofs.Accepted.{no_stop, outside_lawful}
+use Rattle.apl_model.proofs.Accepted.{no_stop}
 use Rattle.apl_model.proofs.Rows.{one_stop, before_after}
 use Rattle.apl_model.proofs.Unique.{one_header}
 use Rattle.apl_model.specs.Mirror.{item_of, body_line_of}
@@ -22,7 +22,7 @@ use Rattle.apl_defn.proofs.FormLemmas.{neither}
 use Rattle.apl_defn.proofs.PhaseLemmas.{none_of_none, first_more}
 use Rattle.apl_defn.specs.Earliest.{earlier}
 use Rattle.apl_defn.specs.NameRules.{IsAssigned, IsErased, IsDeclared, IsTooDeep}
-use Rattle.apl_defn.specs.PartRefusals.{OfSome, IsStopped, IsOutsideRefusal, IsBodyRefusal, IsDeclaredElsewhere, IsUseRefusal}
+use Rattle.apl_defn.specs.PartRefusals.{OfSome, IsStopped, IsOutsideRefusal, IsBodyRefusal, IsUseRefusal}
 use Rattle.apl_defn.specs.Passes.{AreHeaders, IsBody, AreUses}
 use Rattle.apl_defn.specs.Reading.{IsReadLine}
 use Rattle.apl_defn.specs.declared.uses.Body.{Body}

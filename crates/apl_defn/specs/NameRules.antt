@@ -1,5 +1,5 @@
 -- The refusals by names and by depth of one line or one definition, over given headings.
-use Rattle.std.specs.Prelude.{◌≡◌, ℕ, List, [], ◌∷◌, ◌++◌, Some, None, codes, true}
+use Rattle.std.specs.Prelude.{◌≡◌, ℕ, List, ◌∷◌, ◌++◌, Some, codes, true}
 use Rattle.std.specs.List.{IsAmong}
 use Rattle.std.specs.Option.{IsSome}
 use Rattle.apl_base.specs.declared.faults.Cause.TheVariants as cause

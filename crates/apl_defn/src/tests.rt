@@ -194,9 +194,9 @@ const SCRIPTS: [(&str, &str); 124] = [
 
 #[test]
 fn the_first_refusal_of_each_script(rt: HostRuntime) -> Result<(), Fail> {
-    for (script, wanted) in SCRIPTS {
+    for (script, wanted) in SCRIPTS.iter() {
         let found = answer(rt.alloc(), script.as_bytes())?;
-        assert_eq!(rt; found.as_str(), wanted, "at {script}");
+        assert_eq!(rt; found.as_str(), *wanted, "at {script}");
     }
     Ok(())
 }
@@ -227,10 +227,10 @@ fn the_65th_parenthesis(rt: HostRuntime) -> Result<(), Fail> {
         ("", 65, "\n∇F F\n∇", "2 4 DoubleName"),
         ("", 65, "\n∇F", "2 1 OpenDefinition"),
     ];
-    for (begin, count, end, wanted) in table {
-        let script = with_parentheses(rt.alloc(), begin, count, end)?;
+    for (begin, count, end, wanted) in table.iter() {
+        let script = with_parentheses(rt.alloc(), begin, *count, end)?;
         let found = answer(rt.alloc(), script.as_bytes())?;
-        assert_eq!(rt; found.as_str(), wanted, "at {script}");
+        assert_eq!(rt; found.as_str(), *wanted, "at {script}");
     }
     Ok(())
 }

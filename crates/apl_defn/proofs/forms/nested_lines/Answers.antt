@@ -1,6 +1,4 @@
-use Rattle.std.proofs.Common.{◌≤◌, length, subst, sym, arith}
-use Rattle.apl_read.specs.Refusals.{IsFirstIfAny}
-use Rattle.apl_defn.specs.PartRefusals.{OfSome, IsNested}
+use Rattle.apl_defn.specs.PartRefusals.{IsNested}
 use Rattle.apl_defn.proofs.PhaseLemmas.{first_at, first_of_all}
 use Rattle.apl_defn.proofs.forms.nested_lines.Goals as goal
 

@@ -1,4 +1,4 @@
-use Rattle.std.proofs.Common.{◌≡◌, sym, subst}
+use Rattle.std.proofs.Common.{sym, subst}
 use Rattle.std.specs.Bool.{OnFalse}
 use Rattle.std.specs.List.{IsAmong}
 use Rattle.apl_defn.proofs.FormLemmas.{first_heading, heading_again, no_own_name}

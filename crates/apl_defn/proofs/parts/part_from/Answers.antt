@@ -1,4 +1,4 @@
-use Rattle.std.proofs.Common.{◌≡◌, sym, ◌∙◌}
+use Rattle.std.proofs.Common.{sym, ◌∙◌}
 use Rattle.apl_defn.proofs.PartLemmas.{parts-closed, parts-open}
 use Rattle.apl_defn.proofs.parts.part_from.Goals as goal
 

@@ -1,4 +1,4 @@
-use Rattle.std.proofs.Common.{◌≡◌, ◌≤◌, ◌^◌, length, Err, subst, arith}
+use Rattle.std.proofs.Common.{◌≤◌, ◌^◌, length, Err, arith}
 use Rattle.std.proofs.lemmas.Result.{err_from_is_err_and}
 use Rattle.apl_model.specs.Mirror.{script_of}
 use Rattle.apl_model.specs.Refusal.{IsAccepted, IsFirst, IsLineRefusal, IsReadingRefusal, IsRefusal}

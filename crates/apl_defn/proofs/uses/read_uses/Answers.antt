@@ -1,4 +1,4 @@
-use Rattle.std.proofs.Common.{◌≡◌, ◌∷◌, ◌++◌, [], List, Option, None, Some, length, drop, sym, ap, arith, subst, ◌∙◌}
+use Rattle.std.proofs.Common.{◌≡◌, ◌∷◌, ◌++◌, List, Option, None, Some, length, drop, sym, ap, arith, subst, ◌∙◌}
 use Rattle.std.specs.Option.{option_copied, option_to_list}
 use Rattle.apl_model.specs.Script.{parts, alone, defined}
 use Rattle.apl_model.specs.declared.scripts.Header.{Header}

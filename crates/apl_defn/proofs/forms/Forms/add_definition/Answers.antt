@@ -1,4 +1,4 @@
-use Rattle.std.proofs.Common.{◌≡◌, ap, sym, refl, ◌∙◌}
+use Rattle.std.proofs.Common.{ap, refl, ◌∙◌}
 use Rattle.std.proofs.Common.{Some}
 use Rattle.std.specs.Option.{option_copied}
 use Rattle.apl_base.specs.declared.faults.Cause.TheVariants as cause

@@ -1,4 +1,4 @@
-use Rattle.std.proofs.Common.{◌≡◌, None, Some, ap, sym, refl, subst, ◌∙◌}
+use Rattle.std.proofs.Common.{Some, ap, sym, refl, subst, ◌∙◌}
 use Rattle.std.specs.List.{AllZip}
 use Rattle.std.specs.Prelude.{map}
 use Rattle.apl_model.specs.Mirror.{body_line_of}
