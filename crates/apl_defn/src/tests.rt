@@ -201,6 +201,25 @@ fn the_first_refusal_of_each_script(rt: HostRuntime) -> Result<(), Fail> {
     Ok(())
 }
 
+#[test]
+fn bytes_tokens_and_statements(rt: HostRuntime) -> Result<(), Fail> {
+    let table = [
+        ("A←(1+2", "1 7 Grammar"),
+        ("3.5", "1 1 Number"),
+        ("1++", "1 4 Grammar"),
+        ("⌽[1 2]3", "1 3 Grammar"),
+        ("'AB", "1 1 OpenText"),
+        ("2@3", "1 2 Character"),
+    ];
+    for (script, wanted) in table.iter() {
+        let found = answer(rt.alloc(), script.as_bytes())?;
+        assert_eq!(rt; found.as_str(), *wanted, "at {script}");
+    }
+    let found = answer(rt.alloc(), &[0x32, 0x2B, 0xFF])?;
+    assert_eq!(rt; found.as_str(), "1 3 Utf8");
+    Ok(())
+}
+
 /// A script that begins with text, goes on with many parentheses, and ends with text.
 fn with_parentheses(alloc: Global, begin: &str, count: usize, end: &str) -> Result<String, Fail> {
     let mut script = String::from_str(alloc, begin)?;
