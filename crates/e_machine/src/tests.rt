@@ -1,0 +1,282 @@
+ghost use Rattle.std.specs.Prelude.{◌≡◌, ℕ, ◌<◌, ◌≤◌, [], ◌∷◌, length, unsigned_abs, All, IfOk};
+ghost use Rattle.apl_base.specs.Array.{size_of};
+ghost use Rattle.apl_base.specs.Number.{IsNumber};
+ghost use Rattle.apl_base.specs.Selection.{CountsFit};
+ghost use Rattle.array_store.specs.Stores.{StoreView};
+ghost use Rattle.array_store.specs.Follows.{Holds};
+ghost use Rattle.drag_along.specs.declared.nodes.Node.TheVariants.{Operand};
+ghost use Rattle.drag_along.specs.Nodes.{functions_in, leaf_shape};
+ghost use Rattle.drag_along.specs.Segments.{named_by};
+ghost use Rattle.drag_along.specs.Lawful.{IsLawful, IsLawfulLeaf};
+ghost use Rattle.e_machine.specs.Forced.{MayBeHeld};
+
+use crate::copies::{read_all, whole_view};
+use crate::{ForceFault, force, force_beside, own, own_beside, read_at};
+use apl_base::{Cell, Dya, Elem, Kind, Mon, NoMemory, Place, Shape};
+use array_desc::Desc;
+use array_store::{BeginFault, Counts, Store};
+use drag_along::{Leaf, Segment, join1, join2, leaf_interval};
+use std::alloc::{AllocError, Global};
+use std::test::Fail;
+
+fn column(column: u32) -> Place {
+    Place { line: 1, column }
+}
+
+fn filled(mut cells: Vec<Cell>, values: &[i8]) -> Result<Vec<Cell>, AllocError>
+    requires { cells.items ≡ [] }
+    ensures lawful { IfOk result (λ v. All IsNumber v.items) }
+    ensures count { IfOk result (λ v. length v.items ≡ length values.now) }
+{
+    for value in values {
+        cells.push(Cell::from(*value))?;
+    }
+    Ok(cells)
+}
+
+// An array of these numbers in an owner of its own.
+fn stored(store: &mut Store, shape: &Shape, values: &[i8]) -> Result<Leaf, Fail>
+    requires { length values.now ≡ size_of shape.now }
+    ensures shape { IfOk result (λ leaf. leaf_shape leaf ≡ shape.now) }
+    ensures lawful { IfOk result (IsLawfulLeaf store.new) }
+    ensures holders { IfOk result (MayBeHeld store.new u128.MAX) }
+{
+    let cells = filled(store.begin(shape.size())?, values)?;
+    let owner = store.make(cells, Kind::Num)?;
+    Ok(whole_view(owner, shape, Kind::Num))
+}
+
+// The numbers from 0 up, in row-major order.
+fn counting(shape: &Shape) -> Leaf
+    ensures shape { leaf_shape result ≡ shape.now }
+    ensures lawful { (store : StoreView) → IsLawfulLeaf store result }
+{
+    Leaf::Gen {
+        desc: Desc::whole(shape),
+        kind: Kind::Num,
+    }
+}
+
+// One number everywhere.
+fn everywhere(alloc: Global, number: i8, shape: &Shape) -> Leaf
+    ensures shape { leaf_shape result ≡ shape.now }
+    ensures lawful { (store : StoreView) → IsLawfulLeaf store result }
+{
+    let mut desc = Desc::one(alloc, Cell::from(number));
+    desc.extend(shape);
+    Leaf::Gen {
+        desc,
+        kind: Kind::Num,
+    }
+}
+
+// The first elements of a vector, or the last ones where the count is negative.
+fn part(vector: &Leaf, count: i64) -> Leaf
+    requires { CountsFit (leaf_shape vector.now) (count ∷ []) }
+    ensures shape { leaf_shape result ≡ unsigned_abs count ∷ [] }
+    ensures lawful { (store : StoreView) → IsLawfulLeaf store vector.now → IsLawfulLeaf store result }
+{
+    match vector.copy() {
+        Leaf::Stored {
+            owner,
+            mut desc,
+            kind,
+        } => {
+            desc.take(&[count]);
+            Leaf::Stored { owner, desc, kind }
+        }
+        Leaf::Gen { mut desc, kind } => {
+            desc.take(&[count]);
+            Leaf::Gen { desc, kind }
+        }
+    }
+}
+
+// A vector turned round.
+fn reversed(vector: &Leaf) -> Leaf
+    requires { 0 < length (leaf_shape vector.now) }
+    ensures shape { leaf_shape result ≡ leaf_shape vector.now }
+    ensures lawful { (store : StoreView) → IsLawfulLeaf store vector.now → IsLawfulLeaf store result }
+{
+    match vector.copy() {
+        Leaf::Stored {
+            owner,
+            mut desc,
+            kind,
+        } => {
+            desc.reverse(0);
+            Leaf::Stored { owner, desc, kind }
+        }
+        Leaf::Gen { mut desc, kind } => {
+            desc.reverse(0);
+            Leaf::Gen { desc, kind }
+        }
+    }
+}
+
+// A leaf, pending.
+fn pending(alloc: Global, leaf: Leaf, store: &Store) -> Result<Segment, NoMemory>
+    requires { IsLawfulLeaf store.now leaf }
+    ensures shape { IfOk result (λ s. s.shape ≡ leaf_shape leaf) }
+    ensures nodes { IfOk result (λ s. s.nodes ≡ Operand leaf ∷ []) }
+    ensures lawful { IfOk result (IsLawful store.now) }
+{
+    let range = leaf_interval(&leaf, store);
+    Segment::of_leaf(alloc, leaf, range)
+}
+
+// Functions by turns: the numbers from 0 up less what there is, and its negative.
+fn chain(
+    alloc: Global,
+    leaf: &Leaf,
+    functions: usize,
+    store: &Store,
+) -> Result<Segment, NoMemory>
+    requires lawful { IsLawfulLeaf store.now leaf.now }
+    requires few { functions ≤ 64 }
+    ensures functions { IfOk result (λ s. functions_in s.nodes ≡ functions) }
+    ensures lawful { IfOk result (IsLawful store.now) }
+{
+    let shape = &leaf.desc().shape;
+    let mut s = pending(alloc, leaf.copy(), store)?;
+    for k in 0..functions {
+        s = if k % 2 == 0 {
+            join2(s, pending(alloc, counting(shape), store)?, Dya::Sub, column(1))?
+        } else {
+            join1(s, Mon::Minus, column(1))?
+        };
+    }
+    Ok(s)
+}
+
+// `(A÷2)+1÷B`, where A and B are the halves of a vector of four.
+fn halves_and_parts(alloc: Global, vector: &Leaf, store: &Store) -> Result<Segment, NoMemory>
+    requires lawful { IsLawfulLeaf store.now vector.now }
+    requires four { leaf_shape vector.now ≡ 4 ∷ [] }
+    ensures functions { IfOk result (λ s. functions_in s.nodes ≡ 3) }
+    ensures lawful { IfOk result (IsLawful store.now) }
+{
+    let a = part(vector, 2);
+    let b = part(vector, -2);
+    let two = pending(alloc, everywhere(alloc, 2, &a.desc().shape), store)?;
+    let one = pending(alloc, everywhere(alloc, 1, &b.desc().shape), store)?;
+    let left = join2(two, pending(alloc, a, store)?, Dya::Div, column(3))?;
+    let right = join2(pending(alloc, b, store)?, one, Dya::Div, column(8))?;
+    join2(right, left, Dya::Add, column(6))
+}
+
+// A leaf's elements, read from a store that is not used again.
+fn listed(alloc: Global, leaf: &Leaf, mut store: Store) -> Result<Vec<Cell>, AllocError>
+    requires { IsLawfulLeaf store leaf.now }
+{
+    let _counts = store.counts();
+    let mut cells = Vec::with_capacity(alloc, leaf.desc().size() as usize)?;
+    read_all(leaf, &mut store, &mut cells);
+    Ok(cells)
+}
+
+// The lengths and values of a stored array, how many functions follow, what comes, and how many were applied.
+#[derive(Clone, Copy)]
+struct Row<'a> {
+    lengths: &'a [u64],
+    values: &'a [i8],
+    functions: usize,
+    wanted: &'a [Cell],
+    applied: u64,
+}
+
+#[test]
+fn forced_elements(rt: HostRuntime) -> Result<(), Fail> {
+    let rows: [Row; 6] = [
+        Row { lengths: &[], values: &[5], functions: 1, wanted: &[-5], applied: 1 },
+        Row { lengths: &[3], values: &[5, -2, 9], functions: 2, wanted: &[5, -3, 7], applied: 6 },
+        Row { lengths: &[2, 2], values: &[1, 2, 3, 4], functions: 3, wanted: &[-1, 0, 1, 2], applied: 12 },
+        Row { lengths: &[2, 1, 2], values: &[1, 1, 1, 1], functions: 64, wanted: &[1, -31, -63, -95], applied: 256 },
+        Row { lengths: &[0], values: &[], functions: 1, wanted: &[], applied: 0 },
+        Row { lengths: &[2, 0, 3], values: &[], functions: 3, wanted: &[], applied: 0 },
+    ];
+    for row in rows.iter() {
+        let shape = Shape::of(rt.alloc(), row.lengths)?;
+        let size = shape.size();
+        assert_eq!(rt; row.values.len() as u64, size);
+        assert!(rt; 0 < row.functions && row.functions <= 64);
+        let mut store = Store::new(rt.alloc(), 8);
+        let leaf = stored(&mut store, &shape, row.values)?;
+        let s = chain(rt.alloc(), &leaf, row.functions, &store)?;
+        let made = force(&s, &mut store)?;
+        assert_eq!(rt; made.desc().shape.lengths(), row.lengths);
+        assert_eq!(rt; store.live(), 2 * size);
+        assert_eq!(rt; store.counts().made, 2 * size);
+        assert_eq!(rt; store.counts().applied, row.applied);
+        assert!(rt; store.counts().fetched <= size);
+        assert_eq!(rt; listed(rt.alloc(), &made, store)?.as_slice(), row.wanted);
+    }
+    Ok(())
+}
+
+#[test]
+fn the_least_node_that_fails(rt: HostRuntime) -> Result<(), Fail> {
+    let rows: [([i8; 4], Option<u32>); 4] = [
+        ([8, 6, 1, 1], None),
+        ([7, 6, 1, 0], Some(8)),
+        ([7, 5, 1, 1], Some(3)),
+        ([8, 5, 1, 1], Some(3)),
+    ];
+    for (values, fault) in rows.iter() {
+        let mut store = Store::new(rt.alloc(), 8);
+        let four = Shape::of(rt.alloc(), &[4])?;
+        let vector = stored(&mut store, &four, values)?;
+        let s = halves_and_parts(rt.alloc(), &vector, &store)?;
+        match force(&s, &mut store) {
+            Ok(made) => {
+                assert_eq!(rt; *fault, None);
+                assert_eq!(rt; store.counts().applied, 6);
+                assert_eq!(rt; store.counts().made, 6);
+                assert_eq!(rt; listed(rt.alloc(), &made, store)?.as_slice(), [5, 4].as_slice());
+            }
+            Err(why) => {
+                assert_eq!(rt; why, ForceFault::Fault { place: column(fault.unwrap_or(0)) });
+                assert!(rt; store.counts().applied <= 6);
+                assert!(rt; store.counts().fetched <= 4);
+                assert_eq!(rt; store.counts().made, 4);
+            }
+        }
+    }
+    Ok(())
+}
+
+#[test]
+fn no_room(rt: HostRuntime) -> Result<(), Fail> {
+    let mut store = Store::new(rt.alloc(), 7);
+    let shape = Shape::of(rt.alloc(), &[2, 2])?;
+    let leaf = stored(&mut store, &shape, &[1, 2, 3, 4])?;
+    let s = chain(rt.alloc(), &leaf, 1, &store)?;
+    let counts = store.counts();
+    let full = BeginFault::WsFull { live: 4, asked: 4 };
+    assert_eq!(rt; own_beside(&leaf, &s, &mut store).err(), Some(full));
+    let full = ForceFault::WsFull { live: 4, asked: 4 };
+    assert_eq!(rt; force(&s, &mut store).err(), Some(full));
+    assert_eq!(rt; store.counts(), counts);
+    assert_eq!(rt; store.live(), 4);
+    Ok(())
+}
+
+#[test]
+fn a_leaf_read_held_and_copied(rt: HostRuntime) -> Result<(), Fail> {
+    let mut store = Store::new(rt.alloc(), 7);
+    let shape = Shape::of(rt.alloc(), &[3])?;
+    let vector = stored(&mut store, &shape, &[5, -2, 9])?;
+    let turned = reversed(&vector);
+    let number = |cell| Elem { kind: Kind::Num, cell };
+    assert_eq!(rt; read_at(&counting(&shape), &[2], &mut store), number(2));
+    assert_eq!(rt; store.counts().fetched, 0);
+    assert_eq!(rt; read_at(&turned, &[0], &mut store), number(9));
+    assert_eq!(rt; store.counts().fetched, 1);
+    let s = pending(rt.alloc(), turned, &store)?;
+    let held = force(&s, &mut store)?;
+    assert_eq!(rt; store.counts().made, 3);
+    let copy = own_beside(&held, &s, &mut store)?;
+    assert_eq!(rt; store.live(), 6);
+    assert_eq!(rt; listed(rt.alloc(), &copy, store)?.as_slice(), [9, -2, 5].as_slice());
+    Ok(())
+}
