@@ -1,0 +1,4 @@
+use Rattle.e_machine.proofs.tests.chain.Goals as goal
+
+pub pending-requires-then-k-eq0 : goal.pending-requires-then-k-eq0
+pending-requires-then-k-eq0 c = c.counting.ensures.lawful c.args.store.now
