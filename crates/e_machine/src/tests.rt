@@ -92,34 +92,13 @@ fn part(vector: &Leaf, count: i64) -> Leaf
     }
 }
 
-// A vector turned round.
-fn reversed(vector: &Leaf) -> Leaf
-    requires { 0 < length (leaf_shape vector.now) }
-    ensures shape { leaf_shape result ≡ leaf_shape vector.now }
-    ensures lawful { (store : StoreView) → IsLawfulLeaf store vector.now → IsLawfulLeaf store result }
-{
-    match vector.copy() {
-        Leaf::Stored {
-            owner,
-            mut desc,
-            kind,
-        } => {
-            desc.reverse(0);
-            Leaf::Stored { owner, desc, kind }
-        }
-        Leaf::Gen { mut desc, kind } => {
-            desc.reverse(0);
-            Leaf::Gen { desc, kind }
-        }
-    }
-}
-
 // A leaf, pending.
 fn pending(alloc: Global, leaf: Leaf, store: &Store) -> Result<Segment, NoMemory>
     requires { IsLawfulLeaf store.now leaf }
     ensures shape { IfOk result (λ s. s.shape ≡ leaf_shape leaf) }
     ensures nodes { IfOk result (λ s. s.nodes ≡ Operand leaf ∷ []) }
     ensures lawful { IfOk result (IsLawful store.now) }
+    ensures held { IfOk result (λ s. Holds store.now (named_by s)) }
 {
     let range = leaf_interval(&leaf, store);
     Segment::of_leaf(alloc, leaf, range)
@@ -252,31 +231,65 @@ fn no_room(rt: HostRuntime) -> Result<(), Fail> {
     let leaf = stored(&mut store, &shape, &[1, 2, 3, 4])?;
     let s = chain(rt.alloc(), &leaf, 1, &store)?;
     let counts = store.counts();
-    let full = BeginFault::WsFull { live: 4, asked: 4 };
-    assert_eq!(rt; own_beside(&leaf, &s, &mut store).err(), Some(full));
-    let full = ForceFault::WsFull { live: 4, asked: 4 };
+    let Err(BeginFault::WsFull { live, asked }) = own(&leaf, &mut store) else {
+        panic!(rt; "there was room");
+    };
+    assert_eq!(rt; (live, asked), (4, 4));
+    let full = ForceFault::WsFull { live, asked };
     assert_eq!(rt; force(&s, &mut store).err(), Some(full));
     assert_eq!(rt; store.counts(), counts);
     assert_eq!(rt; store.live(), 4);
     Ok(())
 }
 
+// The vector 9 ¯2 5, which is stored from its end.
+fn turned(store: &mut Store, shape: &Shape) -> Result<Leaf, Fail>
+    requires { shape.now ≡ 3 ∷ [] }
+    ensures shape { IfOk result (λ leaf. leaf_shape leaf ≡ 3 ∷ []) }
+    ensures lawful { IfOk result (IsLawfulLeaf store.new) }
+    ensures holders { IfOk result (MayBeHeld store.new u128.MAX) }
+{
+    let mut vector = stored(store, shape, &[5, -2, 9])?;
+    if let Leaf::Stored { desc, .. } = &mut vector {
+        desc.reverse(0);
+    }
+    Ok(vector)
+}
+
+fn number(cell: Cell) -> Elem {
+    Elem {
+        kind: Kind::Num,
+        cell,
+    }
+}
+
 #[test]
-fn a_leaf_read_held_and_copied(rt: HostRuntime) -> Result<(), Fail> {
-    let mut store = Store::new(rt.alloc(), 7);
+fn elements_read(rt: HostRuntime) -> Result<(), Fail> {
+    let mut store = Store::new(rt.alloc(), 3);
     let shape = Shape::of(rt.alloc(), &[3])?;
-    let vector = stored(&mut store, &shape, &[5, -2, 9])?;
-    let turned = reversed(&vector);
-    let number = |cell| Elem { kind: Kind::Num, cell };
-    assert_eq!(rt; read_at(&counting(&shape), &[2], &mut store), number(2));
-    assert_eq!(rt; store.counts().fetched, 0);
-    assert_eq!(rt; read_at(&turned, &[0], &mut store), number(9));
+    let leaf = turned(&mut store, &shape)?;
+    assert_eq!(rt; read_at(&leaf, &[0], &mut store), number(9));
     assert_eq!(rt; store.counts().fetched, 1);
-    let s = pending(rt.alloc(), turned, &store)?;
-    let held = force(&s, &mut store)?;
-    assert_eq!(rt; store.counts().made, 3);
+    assert_eq!(rt; read_at(&counting(&shape), &[2], &mut store), number(2));
+    assert_eq!(rt; store.counts().fetched, 1);
+    Ok(())
+}
+
+#[test]
+fn a_leaf_held_and_copied(rt: HostRuntime) -> Result<(), Fail> {
+    let mut store = Store::new(rt.alloc(), 6);
+    let shape = Shape::of(rt.alloc(), &[3])?;
+    let leaf = turned(&mut store, &shape)?;
+    let s = pending(rt.alloc(), leaf, &store)?;
+    let counts = store.counts();
+    let held = force_beside(&s, &s, &mut store)?;
+    assert_eq!(rt; store.counts(), counts);
+    if let Leaf::Stored { owner, .. } = &held {
+        assert_eq!(rt; store.holders(*owner), 2);
+    }
     let copy = own_beside(&held, &s, &mut store)?;
     assert_eq!(rt; store.live(), 6);
+    assert_eq!(rt; store.counts().applied, 0);
     assert_eq!(rt; listed(rt.alloc(), &copy, store)?.as_slice(), [9, -2, 5].as_slice());
     Ok(())
 }
