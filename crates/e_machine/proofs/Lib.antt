@@ -2,3 +2,8 @@ pub mod CountedLemmas
 pub mod WholeLemmas
 pub mod CopyLemmas
 pub mod BesideLemmas
+pub mod StackRuns
+pub mod FirstNodes
+pub mod Visits
+pub mod FirstFaults
+pub mod ForcedLemmas

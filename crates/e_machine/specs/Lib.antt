@@ -1,1 +1,3 @@
 pub mod Forced
+pub mod Refusals
+pub mod Runs

@@ -2,6 +2,8 @@
 #![tactic(auto)]
 
 mod copies;
+mod elements;
+mod engine;
 mod faults;
 mod forcing;
 mod laws;

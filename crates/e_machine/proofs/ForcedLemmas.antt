@@ -1,0 +1,177 @@
+-- Lemmas on what is answered: leaves that stand for what a segment means, and what was counted.
+use Rattle.std.proofs.Common.{◌≡◌, ℕ, zero, suc, ◌+◌, ◌^◌, ◌<◌, ◌≤◌, ℤ, pos, false, IsTrue, List, [], ◌∷◌, length, map, get_or, Option, Some, refl, sym, ap, ◌∙◌, subst, arith}
+use Rattle.std.specs.Prelude.{slice_get}
+use Rattle.std.specs.Option.{option_map}
+use Rattle.std.specs.List.{AllByRecursion}
+use Rattle.std.proofs.lemmas.List.{length-map, get_or-map}
+use Rattle.apl_base.specs.declared.cells.Kind.TheVariants.{Num}
+use Rattle.apl_base.specs.declared.cells.Elem.{Elem}
+use Rattle.apl_base.specs.declared.cells.Interval.{Interval}
+use Rattle.apl_base.specs.declared.faults.Place.{Place}
+use Rattle.apl_base.specs.Array.{Array, IsIndex, size_of, index_at, place_at}
+use Rattle.apl_base.specs.Interval.{InInterval}
+use Rattle.apl_base.specs.Selection.{upward}
+use Rattle.apl_base.proofs.Sizes.{index_at-place_at, place_at-below}
+use Rattle.array_store.specs.declared.ids.Counts.{Counts}
+use Rattle.array_store.specs.Stores.{StoreView, IsStore, counted, new_owner, Makes}
+use Rattle.array_store.specs.Counting.{OnlyCounted, RoseBy, OnlyComputed, Computed}
+use Rattle.iter_stack.proofs.Walks.{length-upward, get_or-upward}
+use Rattle.drag_along.specs.declared.leaves.Leaf.{Leaf}
+use Rattle.drag_along.specs.declared.nodes.Node.{Node}
+use Rattle.drag_along.specs.declared.nodes.Node.TheVariants.{Operand, One, Two}
+use Rattle.drag_along.specs.Nodes.{leaf_shape, AllLeaves, functions_in, node_place}
+use Rattle.drag_along.specs.Segments.{SegmentView, IsSegment, HasShape}
+use Rattle.drag_along.specs.Meaning.{Means, Faults, pending, leaf_cell, leaf_array, value_at, fails_on, fails_at, IsFirstFault, after_nodes, newest, entry}
+use Rattle.drag_along.specs.Lawful.{LeafWithin, MeansWithin, IsLawful}
+use Rattle.drag_along.specs.Views.{IsWholeView, StandsForArray, only_leaf}
+use Rattle.drag_along.proofs.EntryLemmas.{only_meaning}
+use Rattle.e_machine.specs.Forced.{HasRoom, IsValueOf, IsMade, IsFault, elements_of, applications, fetches}
+use Rattle.e_machine.specs.Runs.{Rises, ComputedJust, ComputedUpTo, HasElements}
+use Rattle.e_machine.proofs.WholeLemmas.{stands-made}
+
+-- ---- counts
+
+-- the counts of a store are numbers of a machine
+pub record AreMachineCounts (c : Counts) : Type 0 where
+  pub applied : c.applied < 2 ^ 64
+  pub fetched : c.fetched < 2 ^ 64
+
+rose : (old new much most : ℕ) → old < 2 ^ 64 → Rises old new much → much ≤ most → RoseBy old new most
+rose old new much most small rises few =
+    let e : new ≡ counted old much = rises small in
+    record { low = omega arith; high = omega arith }
+
+pub only_computed : (old new : StoreView) (functions cells : ℕ) → AreMachineCounts old.counts → ComputedUpTo old new functions cells → OnlyComputed old new functions cells
+only_computed old new functions cells small h = record {
+  only = h.just.only;
+  applied = rose old.counts.applied new.counts.applied h.applied functions small.applied h.just.applied h.few_applied;
+  fetched = rose old.counts.fetched new.counts.fetched h.fetched cells small.fetched h.just.fetched h.few_fetched;
+  made = h.just.made;
+}
+
+pub computed_nothing : (s : StoreView) (functions cells : ℕ) → OnlyComputed s s functions cells
+computed_nothing s functions cells = record {
+  only = refl;
+  applied = record { low = omega arith; high = omega arith };
+  fetched = record { low = omega arith; high = omega arith };
+  made = refl;
+}
+
+pub computed_all : (old new : StoreView) (functions cells : ℕ) → AreMachineCounts old.counts → ComputedJust old new functions cells → Computed old new functions cells
+computed_all old new functions cells small just = record {
+  all = only_computed old new functions cells small (record { applied = functions; fetched = cells; few_applied = omega arith; few_fetched = omega arith; just = just });
+  exact = just.applied small.applied;
+}
+
+-- a store that only counted is one
+pub store_counted : (s t : StoreView) → OnlyCounted s t → IsStore s → IsStore t
+store_counted s t only h =
+    let held : IsStore (record s { counts = t.counts }) = record { owners = h.owners; live = h.live; bound = h.bound } in
+    subst IsStore (sym only) held
+
+-- ---- leaves that stand for arrays
+
+by_index : {X : Type 0} (P : X → Type 0) (xs : List X) (k : ℕ) (d : X) → AllByRecursion P xs → k < length xs → P (get_or xs k d)
+by_index P [] k d h below = absurd (omega (arith, below))
+by_index P (x ∷ xs) zero d h below = h.0
+by_index P (x ∷ xs) (suc k) d h below = by_index P xs k d h.1 (omega (arith, below))
+
+-- what stands at a place in the list of all places' values
+mapped_at : (f : ℕ → ℤ) (n k : ℕ) → k < n → get_or (map f (upward 0 n)) k (pos 0) ≡ f k
+mapped_at f n k below =
+    get_or-map f (upward 0 n) k 0 (pos 0) (omega (arith, below, length-upward 0 n))
+    ∙ ap f (get_or-upward 0 n k 0 below ∙ (let e : 0 + k ≡ k = omega arith in e))
+
+-- a leaf's elements lie where the cells of its array do
+pub stands_within : (s : StoreView) (leaf : Leaf) (a : Array) (range : Interval) → StandsForArray s leaf a → AllByRecursion (InInterval range) a.cells → LeafWithin s leaf range
+stands_within s leaf a range stands all = λ i index.
+    let here : IsIndex a.shape i = subst (λ (ns : List ℕ). IsIndex ns i) stands.shape.same index in
+    let below : place_at a.shape i < size_of a.shape = place_at-below a.shape i here in
+    let cell : ℕ → ℤ = λ p. leaf_cell s leaf (index_at a.shape p) in
+    let cells : map cell (upward 0 (size_of a.shape)) ≡ a.cells = ap (λ (x : Array). x.cells) stands.array in
+    let many : length a.cells ≡ size_of a.shape = sym (ap length cells) ∙ length-map (upward 0 (size_of a.shape)) cell ∙ length-upward 0 (size_of a.shape) in
+    let read : get_or a.cells (place_at a.shape i) (pos 0) ≡ leaf_cell s leaf i =
+    ap (λ (cs : List ℤ). get_or cs (place_at a.shape i) (pos 0)) (sym cells)
+    ∙ mapped_at cell (size_of a.shape) (place_at a.shape i) below
+    ∙ ap (leaf_cell s leaf) (index_at-place_at a.shape i here)
+    in
+    subst (InInterval range) read (by_index (InInterval range) a.cells (place_at a.shape i) (pos 0) all (omega (arith, below, many)))
+
+-- ---- what is answered
+
+-- a node that fails is a function
+fails_function : (s : StoreView) (i : List ℕ) (xs : List Node) (k : ℕ) (st : List (Option Elem)) (x : Node) → IsTrue (fails_at s i xs k st) → slice_get xs k ≡ Some x → functions_in (x ∷ []) ≡ 1
+fails_function s i [] k st x fails there = absurd (cc)
+fails_function s i (y ∷ ys) zero st (Operand leaf) fails there = absurd (apart y leaf (same y (Operand leaf) there) fails)
+  where
+    same : (a b : Node) → Some a ≡ Some b → a ≡ b
+    same a b e = cc
+
+    apart : (a : Node) (l : Leaf) → a ≡ Operand l → IsTrue (fails_on a st) → ⊥
+    apart (Operand m) l e t = absurd (cc)
+    apart (One f p) l e t = absurd (cc)
+    apart (Two f p) l e t = absurd (cc)
+fails_function s i (y ∷ ys) zero st (One f p) fails there = refl
+fails_function s i (y ∷ ys) zero st (Two f p) fails there = refl
+fails_function s i (y ∷ ys) (suc k) st x fails there = fails_function s i ys k (value_at s i y st) x fails there
+
+pub fault_function : (s : StoreView) (g : SegmentView) (k : ℕ) (x : Node) → IsFirstFault s g k → slice_get g.nodes k ≡ Some x → functions_in (x ∷ []) ≡ 1
+fault_function s g k x fault there = fails_function s fault.fails.0 g.nodes k [] x fault.fails.2 there
+
+-- the first fault, with the place of its node
+pub answer_fault : (old new : StoreView) (g : SegmentView) (k : ℕ) (x : Node) (place : Place) → IsSegment g → IsFirstFault old g k → slice_get g.nodes k ≡ Some x → place ≡ node_place x → HasRoom old (elements_of g) → AreMachineCounts old.counts → ComputedUpTo old new (applications g) (fetches g) → IsFault old new g place
+answer_fault old new g k x place seg fault there is room small cost = record {
+  means = sym (only_meaning old g (Faults place) seg (k, fault, ap (option_map node_place) there ∙ ap (λ (p : Place). Some p) (sym is)));
+  room = room;
+  counted = only_computed old new (applications g) (fetches g) small cost;
+}
+
+-- the array of the cells, in a leaf that reads a new owner
+pub answer_value : (old between new : StoreView) (g : SegmentView) (cells : List ℤ) (key : ℕ) (leaf : Leaf) → IsSegment g → HasElements old between g cells → IsWholeView key g.shape Num leaf → Makes between new key (new_owner cells Num) → IsValueOf old new g leaf
+answer_value old between new g cells key leaf seg has view makes = record {
+  array = record { kind = Num; shape = g.shape; cells = cells };
+  means = sym (only_meaning old g (Means (record { kind = Num; shape = g.shape; cells = cells })) seg has.array);
+  stands = stands-made between new key cells g.shape Num leaf makes has.array.count view;
+}
+
+pub answer_made : (old between new : StoreView) (g : SegmentView) (cells : List ℤ) (key : ℕ) (leaf : Leaf) → IsSegment g → AreMachineCounts old.counts → HasElements old between g cells → IsWholeView key g.shape Num leaf → Makes between new key (new_owner cells Num) → IsMade old new g leaf
+answer_made old between new g cells key leaf seg small has view makes = record {
+  key = key;
+  array = record { kind = Num; shape = g.shape; cells = cells };
+  means = sym (only_meaning old g (Means (record { kind = Num; shape = g.shape; cells = cells })) seg has.array);
+  view = view;
+  made = record {
+    between = between;
+    counts = computed_all old between (applications g) (fetches g) small has.just;
+    makes = makes;
+  };
+}
+
+-- a segment of one leaf means that leaf's array
+one_node : (xs : List Node) (leaf : Leaf) → only_leaf xs ≡ Some leaf → xs ≡ Operand leaf ∷ []
+one_node [] leaf e = absurd (cc)
+one_node (Operand m ∷ []) leaf e = ap (λ (l : Leaf). Operand l ∷ []) (same m leaf e)
+  where
+    same : (a b : Leaf) → Some a ≡ Some b → a ≡ b
+    same a b e = cc
+one_node (Operand m ∷ x ∷ xs) leaf e = absurd (cc)
+one_node (One f p ∷ xs) leaf e = absurd (cc)
+one_node (Two f p ∷ xs) leaf e = absurd (cc)
+
+entry_of_leaf : (s : StoreView) (g : SegmentView) (leaf : Leaf) → only_leaf g.nodes ≡ Some leaf → entry s g ≡ Means (leaf_array s g.shape leaf)
+unfolding entry
+entry_of_leaf s g leaf one = ap (λ (xs : List Node). newest (after_nodes s g.shape xs (pending []))) (one_node g.nodes leaf one)
+
+pub answer_held : (old new : StoreView) (g : SegmentView) (leaf held : Leaf) → IsSegment g → only_leaf g.nodes ≡ Some leaf → StandsForArray new held (leaf_array old (leaf_shape leaf) leaf) → IsValueOf old new g held
+answer_held old new g leaf held seg one stands =
+    let leaves : AllLeaves (HasShape g.shape) (Operand leaf ∷ []) = subst (AllLeaves (HasShape g.shape)) (one_node g.nodes leaf one) seg.leaves in
+    record {
+      array = leaf_array old (leaf_shape leaf) leaf;
+      means = entry_of_leaf old g leaf one ∙ ap (λ (ns : List ℕ). Means (leaf_array old ns leaf)) (sym leaves.0.same);
+      stands = stands;
+    }
+
+-- the elements of what is answered lie in the segment's range, where it may not fail
+pub answer_within : (old new : StoreView) (g : SegmentView) (leaf : Leaf) → IsLawful old g → IsValueOf old new g leaf → g.may_fail ≡ false → LeafWithin new leaf g.range
+answer_within old new g leaf lawful value safe =
+    stands_within new leaf value.array g.range value.stands (subst (MeansWithin g.range) value.means (lawful.sound safe))
