@@ -2,6 +2,7 @@ pub mod CountedLemmas
 pub mod WholeLemmas
 pub mod CopyLemmas
 pub mod BesideLemmas
+pub mod LoneLeafLemmas
 pub mod StackRuns
 pub mod FirstNodes
 pub mod Visits

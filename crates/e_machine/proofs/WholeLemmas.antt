@@ -1,6 +1,8 @@
 -- Leaves that read all cells of an owner that was just made.
-use Rattle.std.proofs.Common.{◌≡◌, ℕ, zero, suc, ◌+◌, ◌<◌, ◌≤◌, ℤ, pos, List, [], ◌∷◌, ◌++◌, length, map, get_or, Some, refl, sym, ap, ◌∙◌, subst, arith}
+use Rattle.std.proofs.Common.{◌≡◌, ℕ, zero, suc, ◌+◌, ◌<◌, ◌≤◌, ℤ, pos, List, [], ◌∷◌, ◌++◌, length, map, get_or, Some, true, false, cond, inl, inr, refl, sym, ap, ◌∙◌, subst, arith}
 use Rattle.std.specs.Prelude.{unsigned_abs, ◌≤ℤ◌, ◌<ℤ◌}
+use Rattle.std.proofs.Math.Dec.{eqb}
+use Rattle.std.proofs.lemmas.Bool.{cases_eq, ne_eqb}
 use Rattle.std.proofs.lemmas.Int.{ints}
 use Rattle.std.proofs.lemmas.List.{ext_get_or, length-map, get_or-map}
 use Rattle.apl_base.specs.declared.cells.Kind.{Kind}
@@ -10,10 +12,10 @@ use Rattle.apl_base.proofs.Sizes.{IsIndex-index_at, place_at-below, place_at-ind
 use Rattle.iter_stack.proofs.Walks.{length-upward, get_or-upward}
 use Rattle.array_desc.specs.Desc.{DescView, number}
 use Rattle.array_store.specs.Stores.{OwnerView, StoreView, Makes, new_owner, owner_of, holders_of, cells_of, kind_of}
-use Rattle.array_store.specs.Follows.{one_of}
+use Rattle.array_store.specs.Follows.{Holds, one_of}
 use Rattle.array_store.proofs.StoreLemmas.{owner_of-found}
 use Rattle.drag_along.specs.declared.leaves.Leaf.{Leaf}
-use Rattle.drag_along.specs.declared.leaves.Leaf.TheVariants.{Stored}
+use Rattle.drag_along.specs.declared.leaves.Leaf.TheVariants.{Stored, Gen}
 use Rattle.drag_along.specs.Nodes.{named_by_leaf}
 use Rattle.drag_along.specs.Segments.{HasShape}
 use Rattle.drag_along.specs.Meaning.{leaf_cell, leaf_array}
@@ -96,3 +98,15 @@ stands-made old new key cells shape kind leaf makes count view =
 -- a whole view names its owner alone
 pub named_by-whole : (key : ℕ) (shape : List ℕ) (kind : Kind) (leaf : Leaf) → IsWholeView key shape kind leaf → named_by_leaf leaf ≡ one_of key
 named_by-whole key shape kind leaf view = ap named_by_leaf view.is
+
+-- an owner is held for a lawful leaf that names it
+pub holds-leaf : (s : StoreView) (leaf : Leaf) → IsLawfulLeaf s leaf → Holds s (named_by_leaf leaf)
+holds-leaf s (Stored owner desc kind) lawful = λ key.
+    elim (cases_eq key owner) [
+      | inl same ↦ subst (λ (k : ℕ). one_of owner key ≤ holders_of s k) (sym same) (some owner key (holders_of s owner) lawful.live)
+      | inr differs ↦ rw (ne_eqb key owner differs) (omega arith)
+    ]
+  where
+    some : (owner key n : ℕ) → 0 < n → one_of owner key ≤ n
+    some owner key n h = elim (eqb key owner) as (λ b. cond b 1 0 ≤ n) [ true ↦ omega arith | false ↦ omega arith ]
+holds-leaf s (Gen desc kind) lawful = λ key. omega arith

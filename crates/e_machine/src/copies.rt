@@ -46,7 +46,7 @@ pub(crate) fn whole_view(owner: OwnerId, shape: &Shape, kind: Kind) -> Leaf
 }
 
 // Puts the leaf's elements, in row-major order, into an empty vector that has room for them.
-fn read_all(leaf: &Leaf, store: &mut Store, cells: &mut Vec<Cell>)
+pub(crate) fn read_all(leaf: &Leaf, store: &mut Store, cells: &mut Vec<Cell>)
     requires lawful { IsLawfulLeaf store.old leaf.now }
     requires counts { store.old.counts.fetched < 2 ^ 64 }
     requires empty { cells.old.items ≡ [] }

@@ -1,4 +1,4 @@
-ghost use Rattle.std.specs.Prelude.{◌≡◌};
+ghost use Rattle.std.specs.Prelude.{◌≡◌, IfOk};
 ghost use Rattle.std.specs.Option.{ForSome};
 ghost use Rattle.array_store.specs.Follows.{Holds};
 ghost use Rattle.drag_along.specs.Segments.{named_by};
@@ -27,6 +27,7 @@ pub fn force_beside(
     ensures other { IsLawful store.new other.now }
     ensures meaning { entry store.new other.now ≡ entry store.old other.now }
     ensures held { Holds store.new (named_by other.now) }
+    ensures answer { IfOk result (IsLawfulLeaf store.new) }
 {
     force(s, store)
 }
@@ -44,6 +45,7 @@ pub fn own_beside(
     ensures other { IsLawful store.new other.now }
     ensures meaning { entry store.new other.now ≡ entry store.old other.now }
     ensures held { Holds store.new (named_by other.now) }
+    ensures answer { IfOk result (IsLawfulLeaf store.new) }
 {
     own(leaf, store)
 }
