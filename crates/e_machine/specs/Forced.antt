@@ -2,13 +2,13 @@
 use Rattle.std.specs.Prelude.{◌≡◌, ℕ, ◌+◌, ◌*◌, ◌<◌, ◌≤◌, Option, None, Some}
 use Rattle.apl_base.specs.declared.faults.Place.{Place}
 use Rattle.apl_base.specs.Array.{Array, size_of}
-use Rattle.array_store.specs.Stores.{StoreView, Makes, holders_of, new_owner, with_holders, counted}
+use Rattle.array_store.specs.Stores.{StoreView, holders_of, new_owner, with_holders, counted}
 use Rattle.array_store.specs.Counting.{OnlyFetched, OnlyComputed, Computed, MakesAfter}
 use Rattle.array_store.specs.declared.ids.BeginFault.{BeginFault}
 use Rattle.array_store.specs.declared.ids.BeginFault.TheVariants as begin
 use Rattle.drag_along.specs.declared.leaves.Leaf.{Leaf}
 use Rattle.drag_along.specs.declared.leaves.Leaf.TheVariants.{Stored, Gen}
-use Rattle.drag_along.specs.Nodes.{leaf_kind, leaf_shape, stored_of_leaf, stored_in, functions_in, named_by_leaf}
+use Rattle.drag_along.specs.Nodes.{leaf_kind, leaf_shape, stored_in, functions_in, named_by_leaf}
 use Rattle.drag_along.specs.Segments.{SegmentView}
 use Rattle.drag_along.specs.Meaning.{Means, Faults, leaf_array, entry}
 use Rattle.drag_along.specs.Views.{IsWholeView, StandsForArray, only_leaf}

@@ -15,11 +15,7 @@ use drag_along::{Leaf, Segment};
 
 /// `force`, beside another pending expression whose leaves are held. Whatever is answered, that one is lawful as
 /// before, means what it meant, and its leaves are held.
-pub fn force_beside(
-    s: &Segment,
-    other: &Segment,
-    store: &mut Store,
-) -> Result<Leaf, ForceFault>
+pub fn force_beside(s: &Segment, other: &Segment, store: &mut Store) -> Result<Leaf, ForceFault>
     requires lawful { IsLawful store.old s.now }
     requires holders { ForSome (only_leaf s.now.nodes) (MayBeHeld store.old u128.MAX) }
     requires other { IsLawful store.old other.now }
@@ -34,11 +30,7 @@ pub fn force_beside(
 
 /// `own`, beside a pending expression whose leaves are held. Whatever is answered, that one is lawful as before, means
 /// what it meant, and its leaves are held.
-pub fn own_beside(
-    leaf: &Leaf,
-    other: &Segment,
-    store: &mut Store,
-) -> Result<Leaf, BeginFault>
+pub fn own_beside(leaf: &Leaf, other: &Segment, store: &mut Store) -> Result<Leaf, BeginFault>
     requires lawful { IsLawfulLeaf store.old leaf.now }
     requires other { IsLawful store.old other.now }
     requires held { Holds store.old (named_by other.now) }

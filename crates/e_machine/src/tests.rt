@@ -107,22 +107,27 @@ fn pending(alloc: Global, leaf: Leaf, store: &Store) -> Result<Segment, NoMemory
 }
 
 // From 1 to 64 functions by turns: the numbers from 0 up less what there is, and its negative.
-fn chain(
-    alloc: Global,
-    leaf: &Leaf,
-    functions: usize,
-    store: &Store,
-) -> Result<Segment, NoMemory>
+fn chain(alloc: Global, leaf: &Leaf, functions: usize, store: &Store) -> Result<Segment, NoMemory>
     requires { IsLawfulLeaf store.now leaf.now }
     ensures some { IfOk result (λ s. 0 < functions_in s.nodes) }
     ensures lawful { IfOk result (IsLawful store.now) }
 {
     let shape = &leaf.desc().shape;
     let numbers = pending(alloc, counting(shape), store)?;
-    let mut s = join2(pending(alloc, leaf.copy(), store)?, numbers, Dya::Sub, column(1))?;
+    let mut s = join2(
+        pending(alloc, leaf.copy(), store)?,
+        numbers,
+        Dya::Sub,
+        column(1),
+    )?;
     for k in 1..functions.min(64) {
         s = if k % 2 == 0 {
-            join2(s, pending(alloc, counting(shape), store)?, Dya::Sub, column(1))?
+            join2(
+                s,
+                pending(alloc, counting(shape), store)?,
+                Dya::Sub,
+                column(1),
+            )?
         } else {
             join1(s, Mon::Minus, column(1))?
         };
@@ -185,12 +190,48 @@ struct Row<'a> {
 #[test]
 fn forced_elements(rt: HostRuntime) -> Result<(), Fail> {
     let rows: [Row; 6] = [
-        Row { lengths: &[], values: &[5], functions: 1, wanted: &[-5], applied: 1 },
-        Row { lengths: &[3], values: &[5, -2, 9], functions: 2, wanted: &[5, -3, 7], applied: 6 },
-        Row { lengths: &[2, 2], values: &[1, 2, 3, 4], functions: 3, wanted: &[-1, 0, 1, 2], applied: 12 },
-        Row { lengths: &[2, 1, 2], values: &[1, 1, 1, 1], functions: 64, wanted: &[1, -31, -63, -95], applied: 256 },
-        Row { lengths: &[0], values: &[], functions: 1, wanted: &[], applied: 0 },
-        Row { lengths: &[2, 0, 3], values: &[], functions: 3, wanted: &[], applied: 0 },
+        Row {
+            lengths: &[],
+            values: &[5],
+            functions: 1,
+            wanted: &[-5],
+            applied: 1,
+        },
+        Row {
+            lengths: &[3],
+            values: &[5, -2, 9],
+            functions: 2,
+            wanted: &[5, -3, 7],
+            applied: 6,
+        },
+        Row {
+            lengths: &[2, 2],
+            values: &[1, 2, 3, 4],
+            functions: 3,
+            wanted: &[-1, 0, 1, 2],
+            applied: 12,
+        },
+        Row {
+            lengths: &[2, 1, 2],
+            values: &[1, 1, 1, 1],
+            functions: 64,
+            wanted: &[1, -31, -63, -95],
+            applied: 256,
+        },
+        Row {
+            lengths: &[0],
+            values: &[],
+            functions: 1,
+            wanted: &[],
+            applied: 0,
+        },
+        Row {
+            lengths: &[2, 0, 3],
+            values: &[],
+            functions: 3,
+            wanted: &[],
+            applied: 0,
+        },
     ];
     for row in rows.iter() {
         let size = row.values.len() as u64;
@@ -301,6 +342,9 @@ fn a_leaf_held_and_copied(rt: HostRuntime) -> Result<(), Fail> {
     let copy = own_beside(&held, &s, &mut store)?;
     assert_eq!(rt; store.live(), 6);
     assert_eq!(rt; store.counts().applied, 0);
-    assert_eq!(rt; listed(rt.alloc(), &copy, store)?.as_slice(), [9, -2, 5].as_slice());
+    assert_eq!(rt;
+        listed(rt.alloc(), &copy, store)?.as_slice(),
+        [9, -2, 5].as_slice()
+    );
     Ok(())
 }
