@@ -1,5 +1,5 @@
 -- Pending expressions beside the one that is computed.
-use Rattle.std.proofs.Common.{◌≡◌, ℕ, ◌+◌, ◌≤◌, List, Option, Some, None, Result, Ok, Err, refl, sym, ap, subst, arith}
+use Rattle.std.proofs.Common.{◌≡◌, ℕ, Result, Ok, Err, sym, subst, arith}
 use Rattle.std.specs.Prelude.{IfOk, IfErr}
 use Rattle.array_store.specs.Stores.{StoreView}
 use Rattle.array_store.specs.Follows.{Follows, Holds, none, both}

@@ -1,9 +1,9 @@
 -- The loop that reads all elements of a leaf.
-use Rattle.std.proofs.Common.{◌≡◌, ℕ, ◌+◌, ◌-◌, ◌^◌, ◌<◌, ◌≤◌, ℤ, false, List, [], ◌∷◌, ◌++◌, length, map, drop, All, refl, sym, ap, ◌∙◌, subst, arith}
+use Rattle.std.proofs.Common.{◌≡◌, ℕ, ◌+◌, ◌-◌, ◌^◌, ◌≤◌, ℤ, false, List, [], ◌∷◌, ◌++◌, length, map, drop, All, refl, sym, ap, ◌∙◌, subst, arith}
 use Rattle.std.proofs.lemmas.List.{length_push, map-append}
 use Rattle.std.proofs.lemmas.List.Elements.{All-nil, All-push}
 use Rattle.apl_base.specs.declared.cells.Elem.{Elem}
-use Rattle.apl_base.specs.Array.{IsIndex, size_of, index_at}
+use Rattle.apl_base.specs.Array.{size_of, index_at}
 use Rattle.apl_base.specs.Number.{IsCell}
 use Rattle.apl_base.specs.Selection.{upward}
 use Rattle.iter_stack.specs.Indices.{walk}

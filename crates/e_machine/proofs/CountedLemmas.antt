@@ -1,9 +1,9 @@
 -- Leaves over a store that only counted, and what was counted.
-use Rattle.std.proofs.Common.{◌≡◌, ℕ, ◌+◌, ◌-◌, ◌^◌, ◌≤◌, min, ℤ, List, refl, sym, ap, ◌∙◌, subst, arith}
+use Rattle.std.proofs.Common.{◌≡◌, ℕ, ◌+◌, ◌-◌, ◌^◌, ◌≤◌, List, refl, sym, ap, ◌∙◌, subst, arith}
 use Rattle.array_store.specs.declared.ids.Counts.{Counts}
 use Rattle.array_store.specs.Stores.{StoreView, counted}
 use Rattle.array_store.specs.Follows.{Follows, none}
-use Rattle.array_store.specs.Counting.{OnlyCounted, RoseBy, OnlyFetched}
+use Rattle.array_store.specs.Counting.{OnlyCounted, OnlyFetched}
 use Rattle.array_store.proofs.FollowsLemmas.{follows_counts}
 use Rattle.drag_along.specs.declared.leaves.Leaf.{Leaf}
 use Rattle.drag_along.specs.declared.leaves.Leaf.TheVariants.{Stored, Gen}

@@ -1,5 +1,5 @@
 -- Segments with a function: none of their leaves is answered and held once more.
-use Rattle.std.proofs.Common.{◌≡◌, ℕ, ◌<◌, List, [], ◌∷◌, Option, Some, None, refl, arith}
+use Rattle.std.proofs.Common.{◌≡◌, ◌<◌, List, [], ◌∷◌, None, refl, arith}
 use Rattle.std.specs.Option.{ForSome}
 use Rattle.drag_along.specs.declared.leaves.Leaf.{Leaf}
 use Rattle.drag_along.specs.declared.nodes.Node.{Node}

@@ -1,12 +1,12 @@
 -- Leaves that read all cells of an owner that was just made.
-use Rattle.std.proofs.Common.{◌≡◌, ℕ, zero, suc, ◌+◌, ◌<◌, ◌≤◌, ℤ, pos, List, [], ◌∷◌, ◌++◌, length, map, get_or, Some, true, false, cond, inl, inr, refl, sym, ap, ◌∙◌, subst, arith}
-use Rattle.std.specs.Prelude.{unsigned_abs, ◌≤ℤ◌, ◌<ℤ◌}
+use Rattle.std.proofs.Common.{◌≡◌, ℕ, zero, suc, ◌+◌, ◌<◌, ◌≤◌, ℤ, pos, List, [], ◌∷◌, ◌++◌, length, map, get_or, true, false, cond, inl, inr, refl, sym, ap, ◌∙◌, subst, arith}
+use Rattle.std.specs.Prelude.{unsigned_abs}
 use Rattle.std.proofs.Math.Dec.{eqb}
 use Rattle.std.proofs.lemmas.Bool.{cases_eq, ne_eqb}
 use Rattle.std.proofs.lemmas.Int.{ints}
 use Rattle.std.proofs.lemmas.List.{ext_get_or, length-map, get_or-map}
 use Rattle.apl_base.specs.declared.cells.Kind.{Kind}
-use Rattle.apl_base.specs.Array.{Array, IsIndex, size_of, place_at, index_at}
+use Rattle.apl_base.specs.Array.{Array, IsIndex, size_of, index_at}
 use Rattle.apl_base.specs.Selection.{upward}
 use Rattle.apl_base.proofs.Sizes.{IsIndex-index_at, place_at-below, place_at-index_at}
 use Rattle.iter_stack.proofs.Walks.{length-upward, get_or-upward}
@@ -17,7 +17,6 @@ use Rattle.array_store.proofs.StoreLemmas.{owner_of-found}
 use Rattle.drag_along.specs.declared.leaves.Leaf.{Leaf}
 use Rattle.drag_along.specs.declared.leaves.Leaf.TheVariants.{Stored, Gen}
 use Rattle.drag_along.specs.Nodes.{named_by_leaf}
-use Rattle.drag_along.specs.Segments.{HasShape}
 use Rattle.drag_along.specs.Meaning.{leaf_cell, leaf_array}
 use Rattle.drag_along.specs.Lawful.{LiesIn, IsLawfulLeaf}
 use Rattle.drag_along.specs.Views.{IsWhole, IsWholeView, StandsForArray}

@@ -5,7 +5,7 @@ use mir.Syntax.{w128}
 use Rattle.apl_base.specs.Array.{IsIndex}
 use Rattle.drag_along.specs.Nodes.{leaf_shape}
 use Rattle.drag_along.specs.Meaning.{leaf_element}
-use Rattle.e_machine.proofs.CopyLemmas.{Reads-next, Reads-more, Reads-all, Reads-fetched}
+use Rattle.e_machine.proofs.CopyLemmas.{Reads-next, Reads-more, Reads-all}
 use Rattle.e_machine.proofs.copies.read_all.Goals as goal
 
 pub read_at-requires-clause-index : goal.read_at-requires-clause-index

@@ -1,4 +1,4 @@
-use Rattle.std.proofs.Common.{◌≡◌, ◌≤◌, vec_capacity}
+use Rattle.std.proofs.Common.{◌≤◌, vec_capacity}
 use Rattle.apl_base.specs.Array.{size_of}
 use Rattle.drag_along.specs.Nodes.{leaf_shape}
 use Rattle.e_machine.proofs.CopyLemmas.{Reads}

@@ -1,4 +1,4 @@
-use Rattle.e_machine.proofs.BesideLemmas.{IsKept, kept_beside, follows-own}
+use Rattle.e_machine.proofs.BesideLemmas.{kept_beside, follows-own}
 use Rattle.e_machine.proofs.laws.own_beside.Goals as goal
 
 pub returns-clause-other : goal.returns-clause-other
