@@ -1,11 +1,11 @@
-ghost use Rattle.std.specs.Prelude.{◌≡◌, IfOk};
+ghost use Rattle.std.specs.Prelude.{◌≡◌, IfOk, IfErr};
 ghost use Rattle.std.specs.Option.{ForSome};
 ghost use Rattle.array_store.specs.Follows.{Holds};
 ghost use Rattle.drag_along.specs.Segments.{named_by};
 ghost use Rattle.drag_along.specs.Meaning.{entry};
 ghost use Rattle.drag_along.specs.Lawful.{IsLawful, IsLawfulLeaf};
 ghost use Rattle.drag_along.specs.Views.{only_leaf};
-ghost use Rattle.e_machine.specs.Forced.{MayBeHeld};
+ghost use Rattle.e_machine.specs.Forced.{MayBeHeld, IsForceFault, IsCopyFault};
 
 use crate::copies::own;
 use crate::faults::ForceFault;
@@ -24,6 +24,7 @@ pub fn force_beside(s: &Segment, other: &Segment, store: &mut Store) -> Result<L
     ensures meaning { entry store.new other.now ≡ entry store.old other.now }
     ensures held { Holds store.new (named_by other.now) }
     ensures answer { IfOk result (IsLawfulLeaf store.new) }
+    ensures refused { IfErr result (IsForceFault store.old store.new s.now) }
 {
     force(s, store)
 }
@@ -38,6 +39,7 @@ pub fn own_beside(leaf: &Leaf, other: &Segment, store: &mut Store) -> Result<Lea
     ensures meaning { entry store.new other.now ≡ entry store.old other.now }
     ensures held { Holds store.new (named_by other.now) }
     ensures answer { IfOk result (IsLawfulLeaf store.new) }
+    ensures refused { IfErr result (IsCopyFault store.old store.new leaf.now) }
 {
     own(leaf, store)
 }
