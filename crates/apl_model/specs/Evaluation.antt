@@ -1,7 +1,6 @@
 -- The evaluation of a statement, from right to left. Each function is applied to whole arrays as soon as its
 -- arguments are values.
 use Rattle.std.specs.Prelude.{ℕ, ℤ, Bool, true, false, List, [], ◌∷◌, ◌++◌, length, Option, Some, None, Ok, Err}
-use Rattle.apl_base.specs.declared.faults.ErrorKind.{ErrorKind}
 use Rattle.apl_base.specs.declared.faults.ErrorKind.TheVariants as error
 use Rattle.apl_base.specs.declared.faults.Place.{Place}
 use Rattle.apl_base.specs.Array.{Array}
@@ -130,22 +129,22 @@ Calls = CallsOf State Array
 -- what is done with arrays, where this is what calls mean
 abbrev pub of_arrays : Calls → Values State Array
 of_arrays calls = record {
-    literal = λ l s. done (literal_array l) s;
-    name = λ name place s. needed place (look_up s.variables name) s;
-    apply1 = λ f b place s. at_place place (monadic_value (origin_of s) f b) s;
-    apply2 = λ f a b place s. at_place place (dyadic_value (origin_of s) f a b) s;
-    reduce = λ f axis b place s. at_place place (product.reduce (origin_of s) f axis b) s;
-    outer = λ f a b place s. at_place place (product.outer f a b) s;
-    inner = λ f g a b place s. at_place place (product.inner f g a b) s;
-    index = λ a ps place s. at_place place (places.subscript (origin_of s) a ps) s;
-    assign = λ name a s. done a (with_name name a s);
-    replace = replace_name;
-    calls = calls;
-    print = λ a s. done a (with_printed (array_text a) s);
-    need = needed;
-    branch = branch_to;
-    show = print_result
-  }
+  literal = λ l s. done (literal_array l) s;
+  name = λ name place s. needed place (look_up s.variables name) s;
+  apply1 = λ f b place s. at_place place (monadic_value (origin_of s) f b) s;
+  apply2 = λ f a b place s. at_place place (dyadic_value (origin_of s) f a b) s;
+  reduce = λ f axis b place s. at_place place (product.reduce (origin_of s) f axis b) s;
+  outer = λ f a b place s. at_place place (product.outer f a b) s;
+  inner = λ f g a b place s. at_place place (product.inner f g a b) s;
+  index = λ a ps place s. at_place place (places.subscript (origin_of s) a ps) s;
+  assign = λ name a s. done a (with_name name a s);
+  replace = replace_name;
+  calls = calls;
+  print = λ a s. done a (with_printed (array_text a) s);
+  need = needed;
+  branch = branch_to;
+  show = print_result;
+}
 
 -- the value of an expression
 abbrev pub value_of : Calls → Tree → State → Outcome State Array
