@@ -33,3 +33,11 @@ returns-clause-a_second_spelling_of_membership c = refl
 pub returns-clause-more_than_the_greatest_length : goal.returns-clause-more_than_the_greatest_length
 unfolding digits
 returns-clause-more_than_the_greatest_length c = refl
+
+pub returns-clause-a_base_of_0_takes_all_that_is_left : goal.returns-clause-a_base_of_0_takes_all_that_is_left
+unfolding digits
+returns-clause-a_base_of_0_takes_all_that_is_left c = refl
+
+pub returns-clause-equal_elements_keep_their_order : goal.returns-clause-equal_elements_keep_their_order
+unfolding digits
+returns-clause-equal_elements_keep_their_order c = refl
