@@ -5,7 +5,7 @@ use Rattle.apl_model.specs.declared.functions.Axis.TheVariants as axis
 use Rattle.apl_model.specs.declared.functions.DyaFn.TheVariants as two
 use Rattle.apl_model.specs.declared.functions.MonFn.TheVariants as one
 use Rattle.apl_model.specs.Tree.{Script, parenthesis, monadic, dyadic, inner_product, elided, given, expression, statement_item}
-use Rattle.apl_model_examples.specs.Words.{script, at, number, numbers, integers, negative, name, sets, writes, positions}
+use Rattle.apl_model_examples.specs.Words.{script, at, number, numbers, integers, negative, text, name, sets, writes, positions}
 
 -- a table of one element does not extend, neither to bits nor along the axis of the other argument of an inner product
 abbrev pub a_table_of_one_element_does_not_extend : Script
@@ -43,7 +43,8 @@ a_table_of_one_element_does_not_extend = script ("1 0 1/1 1⍴5"
 -- function the one with more axes gives the shape
 abbrev pub one_element_extends : Script
 one_element_extends = script ("1 0 1/,5"
-    ∷ "1 0 1\\5" ∷ "1/7 8" ∷ "1 2 3+.×5" ∷ "(,5)+.×1 2 3" ∷ "⍴(,5)+.×,3" ∷ "⍴(1 1⍴2)+,1" ∷ "⍴5+,1" ∷ [])
+    ∷ "1 0 1\\5" ∷ "1/7 8" ∷ "1 2 3+.×5" ∷ "(,5)+.×1 2 3" ∷ "⍴(,5)+.×,3" ∷ "⍴(1 1⍴2)+,1" ∷ "⍴5+,1" ∷ "(1 1⍴5)+1 2 3"
+    ∷ "'A'+⍳0" ∷ "0\\5" ∷ "''/5" ∷ "0/1 2" ∷ [])
     (statement_item 1 (expression
     (dyadic (two.Compress axis.Last)
     (numbers (1 ∷ 0 ∷ 1 ∷ []) (at 1 1))
@@ -73,6 +74,17 @@ one_element_extends = script ("1 0 1/,5"
     (dyadic (two.Scalar dya.Add)
     (number 5 (at 8 2))
     (monadic one.Ravel (number 1 (at 8 5)) (at 8 4)) (at 8 3)) (at 8 1)))
+    ∷ statement_item 9 (expression
+    (dyadic (two.Scalar dya.Add)
+    (parenthesis (dyadic two.Reshape (numbers (1 ∷ 1 ∷ []) (at 9 2)) (number 5 (at 9 6)) (at 9 5)) (at 9 1))
+    (numbers (1 ∷ 2 ∷ 3 ∷ []) (at 9 9)) (at 9 8)))
+    ∷ statement_item 10 (expression
+    (dyadic (two.Scalar dya.Add) (text "A" (at 10 1)) (monadic one.Iota (number 0 (at 10 6)) (at 10 5)) (at 10 4)))
+    ∷ statement_item 11 (expression (dyadic (two.Expand axis.Last) (number 0 (at 11 1)) (number 5 (at 11 3)) (at 11 2)))
+    ∷ statement_item 12 (expression
+    (dyadic (two.Compress axis.Last) (text "" (at 12 1)) (number 5 (at 12 4)) (at 12 3)))
+    ∷ statement_item 13 (expression
+    (dyadic (two.Compress axis.Last) (number 0 (at 13 1)) (numbers (1 ∷ 2 ∷ []) (at 13 3)) (at 13 2)))
     ∷ [])
 
 -- a scalar is taken from and dropped from with as many axes of length 1 as there are counts

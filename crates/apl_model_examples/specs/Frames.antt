@@ -5,7 +5,7 @@ use Rattle.apl_model.specs.declared.functions.Axis.TheVariants as axis
 use Rattle.apl_model.specs.declared.functions.DyaFn.TheVariants as two
 use Rattle.apl_model.specs.declared.functions.MonFn.TheVariants as one
 use Rattle.apl_model.specs.Tree.{Script, parenthesis, monadic, dyadic, elided, given, branch, expression, statement_item}
-use Rattle.apl_model_examples.specs.Words.{script, at, number, numbers, integers, negative, name, calls, sets, label, unlabelled, body_line, header, definition}
+use Rattle.apl_model_examples.specs.Words.{script, at, number, numbers, integers, negative, text, name, calls, sets, label, unlabelled, body_line, header, definition}
 
 -- each of two pending calls has an X of its own; a name that no call declares is a global
 abbrev pub a_name_is_set_in_the_innermost_frame_that_declares_it : Script
@@ -67,4 +67,18 @@ a_branch_names_the_next_line = script ("∇Z←B X"
     ∷ statement_item 11 (expression (calls "B" elided (given (numbers (5 ∷ 3 ∷ []) (at 11 3))) (at 11 1)))
     ∷ statement_item 12 (expression (calls "B" elided (given (integers ((negative 1) ∷ []) (at 12 3))) (at 12 1)))
     ∷ statement_item 13 (expression (calls "B" elided (given (number 7 (at 13 3))) (at 13 1)))
+    ∷ [])
+
+-- a whole statement that is a call without a result prints nothing, and every other use of it is a VALUE ERROR at its name;
+-- outside definitions a branch goes nowhere else
+abbrev pub a_value_that_is_needed : Script
+a_value_that_is_needed = script ("∇Z←F X" ∷ "∇" ∷ "F 1" ∷ "(F 1)" ∷ "A←F 1" ∷ "→F 1" ∷ "→9" ∷ "→''" ∷ "7" ∷ [])
+    (definition 1 2 (header (Some (codes "Z")) None "F" (Some (codes "X")) []) []
+    ∷ statement_item 3 (expression (calls "F" elided (given (number 1 (at 3 3))) (at 3 1)))
+    ∷ statement_item 4 (expression (parenthesis (calls "F" elided (given (number 1 (at 4 4))) (at 4 2)) (at 4 1)))
+    ∷ statement_item 5 (expression (sets "A" (calls "F" elided (given (number 1 (at 5 5))) (at 5 3)) (at 5 1)))
+    ∷ statement_item 6 (branch (calls "F" elided (given (number 1 (at 6 4))) (at 6 2)) (at 6 1))
+    ∷ statement_item 7 (branch (number 9 (at 7 2)) (at 7 1))
+    ∷ statement_item 8 (branch (text "" (at 8 2)) (at 8 1))
+    ∷ statement_item 9 (expression (number 7 (at 9 1)))
     ∷ [])

@@ -3,14 +3,14 @@ use Rattle.std.specs.Prelude.{◌∷◌, [], Some, codes}
 use Rattle.apl_base.specs.declared.rows.Dya.TheVariants as dya
 use Rattle.apl_model.specs.declared.functions.DyaFn.TheVariants as two
 use Rattle.apl_model.specs.declared.functions.MonFn.TheVariants as one
-use Rattle.apl_model.specs.Tree.{Script, parenthesis, monadic, dyadic, subscript, output, given, expression, statement_item}
+use Rattle.apl_model.specs.Tree.{Script, parenthesis, monadic, dyadic, outer_product, inner_product, subscript, output, given, expression, statement_item}
 use Rattle.apl_model_examples.specs.Words.{script, at, number, numbers, name, calls, sets, writes, positions, unlabelled, body_line, header, definition}
 
 -- positions are evaluated from the last to the first, then the array; of an indexed assignment the value first; of two
 -- arguments the right one first
 abbrev pub positions_are_evaluated_from_the_last : Script
 positions_are_evaluated_from_the_last = script ("A←2 3⍴⍳6"
-    ∷ "A[⎕←1;⎕←2]" ∷ "A[⎕←2;⎕←3]←⎕←9" ∷ "(⎕←4 5)[⎕←2]" ∷ "(⎕←1)+⎕←2" ∷ "A" ∷ [])
+    ∷ "A[⎕←1;⎕←2]" ∷ "A[⎕←2;⎕←3]←⎕←9" ∷ "(⎕←4 5)[⎕←2]" ∷ "(⎕←1)+⎕←2" ∷ "(⎕←3)∘.+⎕←4" ∷ "(⎕←5)+.×⎕←6" ∷ "A" ∷ [])
     (statement_item 1 (expression
     (sets "A"
     (dyadic two.Reshape
@@ -32,7 +32,15 @@ positions_are_evaluated_from_the_last = script ("A←2 3⍴⍳6"
     (dyadic (two.Scalar dya.Add)
     (parenthesis (output (number 1 (at 5 4)) (at 5 2)) (at 5 1))
     (output (number 2 (at 5 9)) (at 5 7)) (at 5 6)))
-    ∷ statement_item 6 (expression (name "A" (at 6 1)))
+    ∷ statement_item 6 (expression
+    (outer_product dya.Add
+    (parenthesis (output (number 3 (at 6 4)) (at 6 2)) (at 6 1))
+    (output (number 4 (at 6 11)) (at 6 9)) (at 6 6)))
+    ∷ statement_item 7 (expression
+    (inner_product dya.Add dya.Mul
+    (parenthesis (output (number 5 (at 7 4)) (at 7 2)) (at 7 1))
+    (output (number 6 (at 7 11)) (at 7 9)) (at 7 7)))
+    ∷ statement_item 8 (expression (name "A" (at 8 1)))
     ∷ [])
 
 -- the right argument of a call comes first; the statements of a call end before the one that made it; one that an error

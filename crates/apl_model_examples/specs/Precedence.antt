@@ -114,3 +114,74 @@ where_a_limit_error_comes_before_a_domain_error = script ("(1048577⍴'A')⊤104
     (parenthesis (dyadic two.Reshape (numbers (1 ∷ 2 ∷ []) (at 6 2)) (number 5 (at 6 6)) (at 6 5)) (at 6 1))
     (positions (given (dyadic two.Reshape (numbers (1 ∷ 1 ∷ 1 ∷ 1 ∷ 1 ∷ []) (at 6 9)) (number 1 (at 6 19)) (at 6 18)) ∷ given (dyadic two.Reshape (numbers (1 ∷ 1 ∷ 1 ∷ 1 ∷ []) (at 6 21)) (number 1 (at 6 29)) (at 6 28)) ∷ [])) (at 6 8)))
     ∷ [])
+
+-- an interval has one number, a shape no characters
+abbrev pub what_an_interval_and_a_shape_refuse : Script
+what_an_interval_and_a_shape_refuse = script ("⍳1 1⍴3"
+    ∷ "⍳'AB'" ∷ "⍳'A'" ∷ "⍳¯1" ∷ "(2 2⍴1)⍴5" ∷ "'A'⍴5" ∷ "(9⍴1)⍴5" ∷ "'A',1" ∷ [])
+    (statement_item 1 (expression
+    (monadic one.Iota (dyadic two.Reshape (numbers (1 ∷ 1 ∷ []) (at 1 2)) (number 3 (at 1 6)) (at 1 5)) (at 1 1)))
+    ∷ statement_item 2 (expression (monadic one.Iota (text "AB" (at 2 2)) (at 2 1)))
+    ∷ statement_item 3 (expression (monadic one.Iota (text "A" (at 3 2)) (at 3 1)))
+    ∷ statement_item 4 (expression (monadic one.Iota (integers ((negative 1) ∷ []) (at 4 2)) (at 4 1)))
+    ∷ statement_item 5 (expression
+    (dyadic two.Reshape
+    (parenthesis (dyadic two.Reshape (numbers (2 ∷ 2 ∷ []) (at 5 2)) (number 1 (at 5 6)) (at 5 5)) (at 5 1))
+    (number 5 (at 5 9)) (at 5 8)))
+    ∷ statement_item 6 (expression (dyadic two.Reshape (text "A" (at 6 1)) (number 5 (at 6 5)) (at 6 4)))
+    ∷ statement_item 7 (expression
+    (dyadic two.Reshape
+    (parenthesis (dyadic two.Reshape (number 9 (at 7 2)) (number 1 (at 7 4)) (at 7 3)) (at 7 1))
+    (number 5 (at 7 7)) (at 7 6)))
+    ∷ statement_item 8 (expression (dyadic two.Catenate (text "A" (at 8 1)) (number 1 (at 8 5)) (at 8 4)))
+    ∷ [])
+
+-- the counts of a rotation have the shape without the axis; the axes of a transpose are all up to the last, and as many as
+-- there are
+abbrev pub what_a_rotation_and_a_transpose_refuse : Script
+what_a_rotation_and_a_transpose_refuse = script ("1 2⌽1 2 3"
+    ∷ "1 2 3⌽2 3⍴1" ∷ "'A'⌽1 2" ∷ "1⍉2 2⍴1" ∷ "1 3⍉2 2⍴1" ∷ "0 1⍉2 2⍴1" ∷ [])
+    (statement_item 1 (expression
+    (dyadic (two.Rotate axis.Last) (numbers (1 ∷ 2 ∷ []) (at 1 1)) (numbers (1 ∷ 2 ∷ 3 ∷ []) (at 1 5)) (at 1 4)))
+    ∷ statement_item 2 (expression
+    (dyadic (two.Rotate axis.Last)
+    (numbers (1 ∷ 2 ∷ 3 ∷ []) (at 2 1))
+    (dyadic two.Reshape (numbers (2 ∷ 3 ∷ []) (at 2 7)) (number 1 (at 2 11)) (at 2 10)) (at 2 6)))
+    ∷ statement_item 3 (expression
+    (dyadic (two.Rotate axis.Last) (text "A" (at 3 1)) (numbers (1 ∷ 2 ∷ []) (at 3 5)) (at 3 4)))
+    ∷ statement_item 4 (expression
+    (dyadic two.Transpose
+    (number 1 (at 4 1))
+    (dyadic two.Reshape (numbers (2 ∷ 2 ∷ []) (at 4 3)) (number 1 (at 4 7)) (at 4 6)) (at 4 2)))
+    ∷ statement_item 5 (expression
+    (dyadic two.Transpose
+    (numbers (1 ∷ 3 ∷ []) (at 5 1))
+    (dyadic two.Reshape (numbers (2 ∷ 2 ∷ []) (at 5 5)) (number 1 (at 5 9)) (at 5 8)) (at 5 4)))
+    ∷ statement_item 6 (expression
+    (dyadic two.Transpose
+    (numbers (0 ∷ 1 ∷ []) (at 6 1))
+    (dyadic two.Reshape (numbers (2 ∷ 2 ∷ []) (at 6 5)) (number 1 (at 6 9)) (at 6 8)) (at 6 4)))
+    ∷ [])
+
+-- bits are zeros and ones in a vector; characters have no digits, and a base of 0 takes no negative number
+abbrev pub what_bits_and_digits_refuse : Script
+what_bits_and_digits_refuse = script ("2/1 2 3"
+    ∷ "(1 1⍴1)/1 2" ∷ "(1 1⍴1)\\1 2" ∷ "10⊤'A'" ∷ "0 10⊤¯1" ∷ "10⊥2 2⍴1" ∷ [])
+    (statement_item 1 (expression
+    (dyadic (two.Compress axis.Last) (number 2 (at 1 1)) (numbers (1 ∷ 2 ∷ 3 ∷ []) (at 1 3)) (at 1 2)))
+    ∷ statement_item 2 (expression
+    (dyadic (two.Compress axis.Last)
+    (parenthesis (dyadic two.Reshape (numbers (1 ∷ 1 ∷ []) (at 2 2)) (number 1 (at 2 6)) (at 2 5)) (at 2 1))
+    (numbers (1 ∷ 2 ∷ []) (at 2 9)) (at 2 8)))
+    ∷ statement_item 3 (expression
+    (dyadic (two.Expand axis.Last)
+    (parenthesis (dyadic two.Reshape (numbers (1 ∷ 1 ∷ []) (at 3 2)) (number 1 (at 3 6)) (at 3 5)) (at 3 1))
+    (numbers (1 ∷ 2 ∷ []) (at 3 9)) (at 3 8)))
+    ∷ statement_item 4 (expression (dyadic two.Encode (number 10 (at 4 1)) (text "A" (at 4 4)) (at 4 3)))
+    ∷ statement_item 5 (expression
+    (dyadic two.Encode (numbers (0 ∷ 10 ∷ []) (at 5 1)) (integers ((negative 1) ∷ []) (at 5 6)) (at 5 5)))
+    ∷ statement_item 6 (expression
+    (dyadic two.Decode
+    (number 10 (at 6 1))
+    (dyadic two.Reshape (numbers (2 ∷ 2 ∷ []) (at 6 4)) (number 1 (at 6 8)) (at 6 7)) (at 6 3)))
+    ∷ [])

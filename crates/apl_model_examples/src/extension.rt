@@ -21,8 +21,9 @@ pub fn examples_of_extension()
         ∷ "1 1" ∷ "1 1" ∷ [])
         reported [] (one_by_one 6) }
     ensures one_element_extends { RunsThrough script.one_element_extends
-        ("5 5" ∷ "5 0 5" ∷ "7 8" ∷ "30" ∷ "30" ∷ "" ∷ "1 1" ∷ "1" ∷ [])
-        well [] (one_by_one 8) }
+        ("5 5" ∷ "5 0 5" ∷ "7 8" ∷ "30" ∷ "30" ∷ "" ∷ "1 1" ∷ "1" ∷ "6 7 8" ∷ "" ∷ "0" ∷ "" ∷ ""
+        ∷ [])
+        well [] (one_by_one 13) }
     ensures a_scalar_is_taken_with_lengths_of_1 { RunsThrough script.a_scalar_is_taken_with_lengths_of_1
         ("5 0 0" ∷ "0 5" ∷ "0 0" ∷ "1 0" ∷ "5" ∷ [])
         well [] (one_by_one 4) }

@@ -11,6 +11,7 @@ pub fn examples_of_frames()
         (script.a_name_is_set_in_the_innermost_frame_that_declares_it
         ∷ script.an_unset_local_has_no_value
         ∷ script.a_branch_names_the_next_line
+        ∷ script.a_value_that_is_needed
         ∷ []) }
     ensures a_name_is_set_in_the_innermost_frame_that_declares_it { RunsThrough script.a_name_is_set_in_the_innermost_frame_that_declares_it
         ("20 2" ∷ "20" ∷ [])
@@ -27,4 +28,11 @@ pub fn examples_of_frames()
         ((2, 2) ∷ (3, 3) ∷ (9, 1) ∷ (2, 5) ∷ (3, 6) ∷ (4, 7) ∷ (5, 8) ∷ (4, 9) ∷ (5, 10) ∷ (6, 11)
         ∷ (7, 12) ∷ (10, 4) ∷ (2, 14) ∷ (3, 15) ∷ (6, 16) ∷ (7, 17) ∷ (11, 13) ∷ (2, 19) ∷ (3, 20)
         ∷ (12, 18) ∷ (2, 22) ∷ (3, 23) ∷ (13, 21) ∷ []) }
+    ensures a_value_that_is_needed { RunsThrough script.a_value_that_is_needed
+        ("VALUE ERROR" ∷ "      (F 1)" ∷ "       ^"
+        ∷ "VALUE ERROR" ∷ "      A←F 1" ∷ "        ^"
+        ∷ "VALUE ERROR" ∷ "      →F 1" ∷ "       ^"
+        ∷ "7" ∷ [])
+        reported []
+        ((3, 1) ∷ (4, 2) ∷ (5, 3) ∷ (6, 4) ∷ (7, 5) ∷ (8, 6) ∷ (9, 7) ∷ []) }
 {}

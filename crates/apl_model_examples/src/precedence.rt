@@ -12,6 +12,9 @@ pub fn examples_of_precedence()
         ∷ script.no_rank_error_is_left_out
         ∷ script.a_domain_error_comes_before_an_index_error
         ∷ script.where_a_limit_error_comes_before_a_domain_error
+        ∷ script.what_an_interval_and_a_shape_refuse
+        ∷ script.what_a_rotation_and_a_transpose_refuse
+        ∷ script.what_bits_and_digits_refuse
         ∷ []) }
     ensures a_length_error_comes_before_a_domain_error { RunsThrough script.a_length_error_comes_before_a_domain_error
         ("LENGTH ERROR" ∷ "      1 2/1 2 3" ∷ "         ^"
@@ -52,6 +55,35 @@ pub fn examples_of_precedence()
         ∷ "LIMIT ERROR" ∷ "      (2 2 2 2 2⍴'A')+.+(6⍴2)⍴1" ∷ "                      ^"
         ∷ "INDEX ERROR" ∷ "      (1 2⍴5)[1 1 1 1 1⍴2;1 1 1 1⍴1]" ∷ "             ^"
         ∷ "LIMIT ERROR" ∷ "      (1 2⍴5)[1 1 1 1 1⍴1;1 1 1 1⍴1]" ∷ "             ^"
+        ∷ [])
+        reported [] (one_by_one 6) }
+    ensures what_an_interval_and_a_shape_refuse { RunsThrough script.what_an_interval_and_a_shape_refuse
+        ("RANK ERROR" ∷ "      ⍳1 1⍴3" ∷ "      ^"
+        ∷ "LENGTH ERROR" ∷ "      ⍳'AB'" ∷ "      ^"
+        ∷ "DOMAIN ERROR" ∷ "      ⍳'A'" ∷ "      ^"
+        ∷ "DOMAIN ERROR" ∷ "      ⍳¯1" ∷ "      ^"
+        ∷ "RANK ERROR" ∷ "      (2 2⍴1)⍴5" ∷ "             ^"
+        ∷ "DOMAIN ERROR" ∷ "      'A'⍴5" ∷ "         ^"
+        ∷ "LIMIT ERROR" ∷ "      (9⍴1)⍴5" ∷ "           ^"
+        ∷ "DOMAIN ERROR" ∷ "      'A',1" ∷ "         ^"
+        ∷ [])
+        reported [] (one_by_one 8) }
+    ensures what_a_rotation_and_a_transpose_refuse { RunsThrough script.what_a_rotation_and_a_transpose_refuse
+        ("RANK ERROR" ∷ "      1 2⌽1 2 3" ∷ "         ^"
+        ∷ "LENGTH ERROR" ∷ "      1 2 3⌽2 3⍴1" ∷ "           ^"
+        ∷ "DOMAIN ERROR" ∷ "      'A'⌽1 2" ∷ "         ^"
+        ∷ "LENGTH ERROR" ∷ "      1⍉2 2⍴1" ∷ "       ^"
+        ∷ "DOMAIN ERROR" ∷ "      1 3⍉2 2⍴1" ∷ "         ^"
+        ∷ "DOMAIN ERROR" ∷ "      0 1⍉2 2⍴1" ∷ "         ^"
+        ∷ [])
+        reported [] (one_by_one 6) }
+    ensures what_bits_and_digits_refuse { RunsThrough script.what_bits_and_digits_refuse
+        ("DOMAIN ERROR" ∷ "      2/1 2 3" ∷ "       ^"
+        ∷ "RANK ERROR" ∷ "      (1 1⍴1)/1 2" ∷ "             ^"
+        ∷ "RANK ERROR" ∷ "      (1 1⍴1)\\1 2" ∷ "             ^"
+        ∷ "DOMAIN ERROR" ∷ "      10⊤'A'" ∷ "        ^"
+        ∷ "DOMAIN ERROR" ∷ "      0 10⊤¯1" ∷ "          ^"
+        ∷ "RANK ERROR" ∷ "      10⊥2 2⍴1" ∷ "        ^"
         ∷ [])
         reported [] (one_by_one 6) }
 {}

@@ -17,3 +17,7 @@ returns-clause-an_unset_local_has_no_value c = refl
 pub returns-clause-a_branch_names_the_next_line : goal.returns-clause-a_branch_names_the_next_line
 unfolding digits
 returns-clause-a_branch_names_the_next_line c = refl
+
+pub returns-clause-a_value_that_is_needed : goal.returns-clause-a_value_that_is_needed
+unfolding digits
+returns-clause-a_value_that_is_needed c = refl

@@ -17,3 +17,7 @@ returns-clause-a_failed_statement_ends_too c = refl
 pub returns-clause-a_statement_that_is_cut_off_has_not_ended : goal.returns-clause-a_statement_that_is_cut_off_has_not_ended
 unfolding digits
 returns-clause-a_statement_that_is_cut_off_has_not_ended c = refl
+
+pub returns-clause-turns_are_spent_after_a_report_too : goal.returns-clause-turns_are_spent_after_a_report_too
+unfolding digits
+returns-clause-turns_are_spent_after_a_report_too c = refl

@@ -21,3 +21,15 @@ returns-clause-a_domain_error_comes_before_an_index_error c = refl
 pub returns-clause-where_a_limit_error_comes_before_a_domain_error : goal.returns-clause-where_a_limit_error_comes_before_a_domain_error
 unfolding digits
 returns-clause-where_a_limit_error_comes_before_a_domain_error c = refl
+
+pub returns-clause-what_an_interval_and_a_shape_refuse : goal.returns-clause-what_an_interval_and_a_shape_refuse
+unfolding digits
+returns-clause-what_an_interval_and_a_shape_refuse c = refl
+
+pub returns-clause-what_a_rotation_and_a_transpose_refuse : goal.returns-clause-what_a_rotation_and_a_transpose_refuse
+unfolding digits
+returns-clause-what_a_rotation_and_a_transpose_refuse c = refl
+
+pub returns-clause-what_bits_and_digits_refuse : goal.returns-clause-what_bits_and_digits_refuse
+unfolding digits
+returns-clause-what_bits_and_digits_refuse c = refl
