@@ -108,17 +108,17 @@ number_table rows columns ns = record { kind = Num; shape = rows ∷ columns ∷
 pub record Seen : Type 0 where
   pub bytes : List ℕ
   pub ending : Ending
-  pub globals : Bindings
+  pub globals : Bindings Array
 
 abbrev pub seen : Immediate → Seen
 seen i = record { bytes = i.bytes; ending = i.ending; globals = i.globals }
 
 -- with so many turns, the script prints this text, ends so, and leaves these globals
-abbrev pub RunsWithin : ℕ → Script → String → Ending → Bindings → Type 0
+abbrev pub RunsWithin : ℕ → Script → String → Ending → Bindings Array → Type 0
 RunsWithin turns s text ending globals = seen (immediate s turns) ≡ record { bytes = encode_utf8_all (codes text); ending = ending; globals = globals }
 
 -- 1,000 turns are more than any of the examples takes
-abbrev pub Runs : Script → String → Ending → Bindings → Type 0
+abbrev pub Runs : Script → String → Ending → Bindings Array → Type 0
 Runs s text ending globals = RunsWithin 1000 s text ending globals
 
 -- ---- the whole of what comes of a script
