@@ -134,12 +134,12 @@ ended_statement s = record { line = s.0; begun = s.1 }
 
 -- with so many turns, the script prints these lines, ends so, leaves these globals and the origin 1, and its
 -- statements end in this order
-abbrev pub RunsThroughWithin : ℕ → Script → List String → Ending → Bindings → List (ℕ × ℕ) → Type 0
+abbrev pub RunsThroughWithin : ℕ → Script → List String → Ending → Bindings Array → List (ℕ × ℕ) → Type 0
 RunsThroughWithin turns s lines ending globals ended =
     immediate s turns
     ≡ record { bytes = encode_utf8_all (printed_lines lines); ending = ending; globals = globals; origin = pos 1; ended = map ended_statement ended }
 
-abbrev pub RunsThrough : Script → List String → Ending → Bindings → List (ℕ × ℕ) → Type 0
+abbrev pub RunsThrough : Script → List String → Ending → Bindings Array → List (ℕ × ℕ) → Type 0
 RunsThrough s lines ending globals ended = RunsThroughWithin 1000 s lines ending globals ended
 
 -- the statements of lines 1 to n, where each line is a statement and none makes a call
