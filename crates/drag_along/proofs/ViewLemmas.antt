@@ -9,7 +9,7 @@ use Rattle.apl_base.specs.Array.{Array, IsIndex, size_of, index_at, place_at}
 use Rattle.apl_base.specs.Interval.{hull}
 use Rattle.apl_base.specs.Selection.{upward}
 use Rattle.apl_base.proofs.Sizes.{IsIndex-index_at, place_at-below, place_at-index_at}
-use Rattle.array_desc.specs.Desc.{DescView, number}
+use Rattle.array_desc.specs.Desc.{DescView, IsWhole, number}
 use Rattle.array_store.specs.Stores.{OwnerView, StoreView, owner_of, holders_of, cells_of, kind_of, interval_of, with_cell}
 use Rattle.array_store.proofs.StoreLemmas.{owner_found, owner_of-found, owner_at-with_cell}
 use Rattle.drag_along.specs.declared.leaves.Leaf.{Leaf}
@@ -17,7 +17,7 @@ use Rattle.drag_along.specs.declared.leaves.Leaf.TheVariants.{Stored}
 use Rattle.drag_along.specs.Nodes.{leaf_shape}
 use Rattle.drag_along.specs.Meaning.{leaf_cell, leaf_array}
 use Rattle.drag_along.specs.Lawful.{LiesIn}
-use Rattle.drag_along.specs.Views.{IsWhole, IsWholeView, FillsShape, owner_array, StandsForArray}
+use Rattle.drag_along.specs.Views.{IsWholeView, FillsShape, owner_array, StandsForArray}
 use Rattle.drag_along.proofs.LawfulLemmas.{length-upward}
 use Rattle.drag_along.proofs.StepLemmas.{get_or-upward}
 
