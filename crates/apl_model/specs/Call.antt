@@ -7,7 +7,8 @@ use Rattle.apl_base.specs.declared.faults.Place.{Place}
 use Rattle.apl_base.specs.Array.{Array}
 use Rattle.apl_model.specs.declared.scripts.Header.{Header}
 use Rattle.apl_model.specs.Environment.{Environment, Bindings, is_same_name, look_up}
-use Rattle.apl_model.specs.Evaluation.{State, Outcome, done, fails, spent, and_then, Calls, Flow, onwards, to_line}
+use Rattle.apl_model.specs.Evaluation.{State, Calls}
+use Rattle.apl_model.specs.Outcome.{Outcome, done, fails, spent, and_then, Flow, onwards, to_line}
 use Rattle.apl_model.specs.Whole.{scalar}
 
 -- a line of a function's body: the number of its line in the script, its label, and what it does
@@ -31,17 +32,17 @@ abbrev pub with_ended : ℕ → ℕ → State → State
 with_ended line number s = record s { ended = s.ended ++ record { line = line; begun = number } ∷ [] }
 
 -- a statement that ended, well or by an error, is entered; one that a spent budget cut off is not
-abbrev pub entered : {A : Type 0} → ℕ → ℕ → Outcome A → Outcome A
+abbrev pub entered : {A : Type 0} → ℕ → ℕ → Outcome State A → Outcome State A
 entered line number (done a s) = done a (with_ended line number s)
 entered line number (fails kind place s) = fails kind place (with_ended line number s)
 entered line number (spent s) = spent s
 
 -- A turn is one statement begun, also an empty one. With no turns left it is not begun.
-abbrev pub turn : {A : Type 0} → ℕ → ℕ → (State → Outcome A) → State → Outcome A
+abbrev pub turn : {A : Type 0} → ℕ → ℕ → (State → Outcome State A) → State → Outcome State A
 turn line zero act s = spent s
 turn line (suc left) act s = entered line (suc s.begun) (act (with_turn left s))
 
-abbrev pub on_turn : {A : Type 0} → ℕ → (State → Outcome A) → State → Outcome A
+abbrev pub on_turn : {A : Type 0} → ℕ → (State → Outcome State A) → State → Outcome State A
 on_turn line act s = turn line s.turns act s
 
 -- ---- frames
@@ -96,20 +97,20 @@ abbrev pub next_line : ℤ → Flow → ℤ
 next_line k onwards = k +ℤ pos 1
 next_line k (to_line n) = n
 
-module _ (S : Type 0) (meaning : Calls → S → State → Outcome Flow) where
+module _ (S : Type 0) (meaning : Calls → S → State → Outcome State Flow) where
   -- a line, where there is one, takes a turn and says which line is next; a number that is no line ends the call
-  abbrev pub run_line : Calls → Option (RoutineLine S) → State → (Flow → State → Outcome (Unit {0})) → Outcome (Unit {0})
+  abbrev pub run_line : Calls → Option (RoutineLine S) → State → (Flow → State → Outcome State (Unit {0})) → Outcome State (Unit {0})
   run_line calls None s next = done tt s
   run_line calls (Some l) s next = and_then (on_turn l.line (meaning calls l.statement) s) next
 
   -- The lines of a body from number k on. As each takes a turn, there are at most so many of them as turns are
   -- left.
-  abbrev pub run_lines : Calls → List (RoutineLine S) → ℕ → ℤ → State → Outcome (Unit {0})
+  abbrev pub run_lines : Calls → List (RoutineLine S) → ℕ → ℤ → State → Outcome State (Unit {0})
   run_lines calls body zero k s = run_line calls (line_at body k) s (λ flow t. spent t)
   run_lines calls body (suc n) k s = run_line calls (line_at body k) s (λ flow t. run_lines calls body n (next_line k flow) t)
 
   -- A call makes its frame, runs the body from line 1, and gives the value that the result's name then has.
-  abbrev pub run_routine : Calls → Routine S → Option Array → Option Array → State → Outcome (Option Array)
+  abbrev pub run_routine : Calls → Routine S → Option Array → Option Array → State → Outcome State (Option Array)
   run_routine calls r left right s =
       let inside = with_frame (frame_of r left right) s in
       and_then (run_lines calls r.body s.turns (pos 1) inside) (λ _ t. done (result_in t.variables r.header.result) (without_frame t))
@@ -119,7 +120,7 @@ module _ (S : Type 0) (meaning : Calls → S → State → Outcome Flow) where
   routine_of routines f = find (λ r. is_same_name r.header.f f) routines
 
   -- a name that heads no definition has no value (it stands in no accepted script)
-  abbrev pub run_found : Calls → Option (Routine S) → Place → Option Array → Option Array → State → Outcome (Option Array)
+  abbrev pub run_found : Calls → Option (Routine S) → Place → Option Array → Option Array → State → Outcome State (Option Array)
   run_found calls None place left right s = fails error.Value place s
   run_found calls (Some r) place left right s = run_routine calls r left right s
 

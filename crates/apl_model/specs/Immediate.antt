@@ -9,7 +9,8 @@ use Rattle.apl_model.specs.declared.scripts.Command.TheVariants.{Vars, Fns, Eras
 use Rattle.apl_model.specs.declared.tokens.Line.{Line}
 use Rattle.apl_model.specs.Call.{Routine, RoutineLine, calls_of, on_turn}
 use Rattle.apl_model.specs.Environment.{Bindings, no_variables, set_names, unset_global}
-use Rattle.apl_model.specs.Evaluation.{State, Ended, Outcome, done, fails, spent, Flow, statement_flow, with_printed}
+use Rattle.apl_model.specs.Evaluation.{State, Ended, statement_flow, with_printed}
+use Rattle.apl_model.specs.Outcome.{Outcome, done, fails, spent, Flow}
 use Rattle.apl_model.specs.Printed.{newline, blank, body_prefix, plain_prefix, report_text}
 use Rattle.apl_model.specs.Tree.{Script, Item, Definition, BodyLine, Statement, statement_item, command_item, definition_item}
 
@@ -110,9 +111,9 @@ pub record Run : Type 0 where
   pub ending : Ending
   pub state : State
 
-module _ (S : Type 0) (flow_of : S → State → Outcome Flow) (functions : List (List ℕ)) (report_of : ErrorKind → Place → List ℕ) where
+module _ (S : Type 0) (flow_of : S → State → Outcome State Flow) (functions : List (List ℕ)) (report_of : ErrorKind → Place → List ℕ) where
   -- after a statement: an error prints its report, and the script goes on; a spent budget ends it
-  abbrev pub after_statement : {A : Type 0} → Ending → Outcome A → (Ending → State → Run) → Run
+  abbrev pub after_statement : {A : Type 0} → Ending → Outcome State A → (Ending → State → Run) → Run
   after_statement ending (done a s) next = next ending s
   after_statement ending (fails kind place s) next = next reported (with_printed (report_of kind place) (unwound s))
   after_statement ending (spent s) next = record { ending = out_of_turns; state = unwound s }

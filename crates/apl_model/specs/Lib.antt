@@ -11,6 +11,8 @@ pub mod Lift
 pub mod Lines
 pub mod Made
 pub mod Mirror
+pub mod Order
+pub mod Outcome
 pub mod Printed
 pub mod Product
 pub mod Refusal

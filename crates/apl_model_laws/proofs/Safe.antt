@@ -17,7 +17,9 @@ use Rattle.apl_model.specs.declared.scripts.Command.TheVariants.{Vars, Fns, Eras
 use Rattle.apl_model.specs.declared.tokens.Heading.{Heading}
 use Rattle.apl_model.specs.Call.{Routine, RoutineLine, with_turn, entered, turn, on_turn, argument_binding, label_bindings, unset, with_frame, innermost_gone, frame_of, line_at, next_line, run_line, run_lines, run_found, routine_of, call_within, calls_of, result_in}
 use Rattle.apl_model.specs.Environment.{Environment, Bindings, is_same_name, declares, bound_in, bound_to, found_in, look_up, set_in_frames, declared_in, set_name, unset_global}
-use Rattle.apl_model.specs.Evaluation.{State, Outcome, done, fails, spent, and_then, at_place, needed, origin_of, monadic_value, dyadic_value, replace_in, Calls, value_of, argument, positions_of, Flow, branch_by, branch_to, print_result, print_value, silently, expression_flow, statement_flow}
+use Rattle.apl_model.specs.Evaluation.{State, at_place, needed, origin_of, monadic_value, dyadic_value, replace_in, Calls, value_of, argument, positions_of, branch_by, branch_to, print_result, of_arrays, statement_flow}
+use Rattle.apl_model.specs.Order.{silently, show_value, expression_in}
+use Rattle.apl_model.specs.Outcome.{Outcome, done, fails, spent, and_then, Flow}
 use Rattle.apl_model.specs.Grammar.{IsExpression, ArePositions, IsPosition, IsStatement, IsCommand}
 use Rattle.apl_model.specs.Immediate.{Step, statement_step, command_step, obeyed, unwound, Ending, reported, well, Run, after_statement, run_steps, step_of, definitions_of, routine, report, beginning}
 use Rattle.apl_model.specs.Tree as tree
@@ -123,10 +125,10 @@ set_name-lawful e name a h p = by (declared_in e.frames name)
 
 -- ---- outcomes
 
-pub record Safe {A : Type 0} (Value : A → Type 0) (o : Outcome A) : Type 0 where
+pub record Safe {A : Type 0} (Value : A → Type 0) (o : Outcome State A) : Type 0 where
   pub outcome : IsOutcome Value o
 
-safe_then : {A B : Type 0} {P : A → Type 0} {Q : B → Type 0} {o : Outcome A} {next : A → State → Outcome B} →
+safe_then : {A B : Type 0} {P : A → Type 0} {Q : B → Type 0} {o : Outcome State A} {next : A → State → Outcome State B} →
     Safe P o → ((a : A) (t : State) → P a → IsEnvironment t.variables → Safe Q (next a t)) → Safe Q (and_then o next)
 safe_then {o = done a t} h n = n a t h.outcome.0 h.outcome.1
 safe_then {o = fails kind place t} h n = record { outcome = h.outcome }
@@ -203,7 +205,7 @@ module _ (hs : List Heading) (calls : Calls) (lawful : CallsAreLawful calls) whe
   result-safe (Some a) s e = record { outcome = (tt, e) }
   result-safe None s e = record { outcome = (tt, e) }
 
-  flow-safe : (t : Tree) (s : State) → IsExpression hs t → IsEnvironment s.variables → Safe Any (and_then (value_of calls t s) print_value)
+  flow-safe : (t : Tree) (s : State) → IsExpression hs t → IsEnvironment s.variables → Safe Any (and_then (value_of calls t s) (show_value (of_arrays calls)))
   flow-safe t s h e = safe_then (value-safe t s h e) (λ a u p e. record { outcome = (tt, e) })
 
   silent-safe : (t : Tree) (s : State) → IsExpression hs t → IsEnvironment s.variables → Safe Any (and_then (value_of calls t s) silently)
@@ -217,7 +219,7 @@ module _ (hs : List Heading) (calls : Calls) (lawful : CallsAreLawful calls) whe
       by false true = record { outcome = e }
       by false false = record { outcome = (tt, e) }
 
-  expression-safe : (t : Tree) (s : State) → IsExpression hs t → IsEnvironment s.variables → Safe Any (expression_flow calls t s)
+  expression-safe : (t : Tree) (s : State) → IsExpression hs t → IsEnvironment s.variables → Safe Any (expression_in (of_arrays calls) t s)
   expression-safe (call f left right place) s h e =
       let slots = call-slots hs f left right place h in
       safe_then (argument-safe right s slots.1 e) (λ b t q e. safe_then (argument-safe left t slots.0 e) (λ a u p e.
@@ -251,12 +253,12 @@ statements_are_lawful hs calls lawful t h s e = (statement-safe hs calls lawful 
 
 -- ---- calls
 
-turn-safe : {A : Type 0} (P : A → Type 0) (line : ℕ) (act : State → Outcome A) → ((s : State) → IsEnvironment s.variables → Safe P (act s)) →
+turn-safe : {A : Type 0} (P : A → Type 0) (line : ℕ) (act : State → Outcome State A) → ((s : State) → IsEnvironment s.variables → Safe P (act s)) →
     (n : ℕ) (s : State) → IsEnvironment s.variables → Safe P (turn line n act s)
 turn-safe P line act h zero s e = record { outcome = e }
 turn-safe {A} P line act h (suc left) s e = ends (act (with_turn left s)) (h (with_turn left s) e)
   where
-    ends : (o : Outcome A) → Safe P o → Safe P (entered line (suc s.begun) o)
+    ends : (o : Outcome State A) → Safe P o → Safe P (entered line (suc s.begun) o)
     ends (done a t) k = record { outcome = k.outcome }
     ends (fails kind place t) k = record { outcome = k.outcome }
     ends (spent t) k = record { outcome = k.outcome }
@@ -317,7 +319,7 @@ abbrev Nothing : Unit {0} → Type 0
 Nothing u = Unit {0}
 
 module _ (hs : List Heading) (calls : Calls) (lawful : CallsAreLawful calls) where
-  line-safe : (l : Option (RoutineLine Statement)) (s : State) (next : Flow → State → Outcome (Unit {0})) → IfSome l (IsLine hs) → IsEnvironment s.variables →
+  line-safe : (l : Option (RoutineLine Statement)) (s : State) (next : Flow → State → Outcome State (Unit {0})) → IfSome l (IsLine hs) → IsEnvironment s.variables →
       ((flow : Flow) (t : State) → IsEnvironment t.variables → Safe Nothing (next flow t)) → Safe Nothing (run_line Statement statement_flow calls l s next)
   line-safe None s next h e n = record { outcome = (tt, e) }
   line-safe (Some l) s next h e n =
@@ -380,7 +382,7 @@ unwound-lawful : (s : State) → IsEnvironment s.variables → IsEnvironment (un
 unwound-lawful s e = record { globals = e.globals; frames = tt; origin = e.origin }
 
 module _ (hs : List Heading) (calls : Calls) (lawful : CallsAreLawful calls) (functions : List (List ℕ)) (report_of : ErrorKind → Place → List ℕ) where
-  after-lawful : (ending : Ending) (o : Outcome Flow) (next : Ending → State → Run) → Safe (λ flow. Unit {0}) o →
+  after-lawful : (ending : Ending) (o : Outcome State Flow) (next : Ending → State → Run) → Safe (λ flow. Unit {0}) o →
       ((n : Ending) (t : State) → IsEnvironment t.variables → IsEnvironment (next n t).state.variables) →
       IsEnvironment (after_statement Statement (statement_flow calls) functions report_of ending o next).state.variables
   after-lawful ending (done a s) next h n = n ending s h.outcome.1

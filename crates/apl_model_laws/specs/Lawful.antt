@@ -13,7 +13,8 @@ use Rattle.apl_model.specs.declared.tokens.Line.{Line}
 use Rattle.apl_model.specs.declared.trees.Literal.{Literal}
 use Rattle.apl_model.specs.Call.{Routine, RoutineLine, call_within}
 use Rattle.apl_model.specs.Environment.{Environment, Bindings}
-use Rattle.apl_model.specs.Evaluation.{State, Outcome, done, fails, spent, Calls, literal_array, monadic_value, dyadic_value, value_of, positions_of, statement_flow}
+use Rattle.apl_model.specs.Evaluation.{State, Calls, literal_array, monadic_value, dyadic_value, value_of, positions_of, statement_flow}
+use Rattle.apl_model.specs.Outcome.{Outcome, done, fails, spent}
 use Rattle.apl_model.specs.Grammar.{IsLiteral, IsExpression, ArePositions, IsStatement, IsCommand}
 use Rattle.apl_model.specs.Immediate.{routine, run_items, immediate}
 use Rattle.apl_model.specs.Product.{reduce, outer, inner}
@@ -78,13 +79,13 @@ pub record IsEnvironment (e : Environment) : Type 0 where
   pub origin : IsOrigin e.origin
 
 -- what comes of a part of a run: a lawful value, if there is one, and lawful variables
-abbrev pub IsOutcome : {A : Type 0} → (A → Type 0) → Outcome A → Type 0
+abbrev pub IsOutcome : {A : Type 0} → (A → Type 0) → Outcome State A → Type 0
 IsOutcome Value (done a s) = Value a × IsEnvironment s.variables
 IsOutcome Value (fails kind place s) = IsEnvironment s.variables
 IsOutcome Value (spent s) = IsEnvironment s.variables
 
 -- from lawful variables on
-abbrev pub KeepsLawful : {A : Type 0} → (A → Type 0) → (State → Outcome A) → Type 0
+abbrev pub KeepsLawful : {A : Type 0} → (A → Type 0) → (State → Outcome State A) → Type 0
 KeepsLawful Value act = (s : State) → IsEnvironment s.variables → IsOutcome Value (act s)
 
 -- a call of lawful arguments gives a lawful result, if it gives one
