@@ -77,8 +77,7 @@ axes-below (a ∷ axes) k h = (omega (arith, h), axes-below axes k (omega (arith
 pub axes-are : (zs : List ℤ) → are_axes zs ≡ true → AllByRecursion (λ z. pos 0 ≤ℤ z) zs × AreAxes (axes_rank (axes_of zs)) (axes_of zs)
 axes-are zs h =
     let each = list_all-each (is_axis_among zs) zs h in
-    let k = axes_rank (axes_of zs) in
-    (
+    let k = axes_rank (axes_of zs) in (
       all_imp (λ z. is_axis_among zs z ≡ true) (λ z. pos 0 ≤ℤ z) zs (not_below zs) each,
       record {
         below = axes-below (axes_of zs) k (omega arith);
