@@ -1,5 +1,5 @@
 use mir.Syntax.{w128}
-use Rattle.std.proofs.Common.{◌≡◌, ◌^◌, ◌<◌, length, subst, sym, arith}
+use Rattle.std.proofs.Common.{◌^◌, ◌<◌, length, subst, sym, arith}
 use Rattle.std.proofs.lemmas.Int.{to_z-of_z}
 use Rattle.array_store.specs.Places.{PlacesWithin}
 use Rattle.array_store.proofs.PlaceLemmas.{copied_none, copied_next}

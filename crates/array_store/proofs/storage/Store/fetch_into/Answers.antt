@@ -1,9 +1,9 @@
 use mir.Syntax.{w128}
-use Rattle.std.proofs.Common.{◌≡◌, ℤ, List, All, length, Some, ap, sym, ◌∙◌, subst}
+use Rattle.std.proofs.Common.{ℤ, List, All, length, Some, ap, sym, ◌∙◌, subst}
 use Rattle.std.proofs.lemmas.Int.{to_z-of_z}
 use Rattle.apl_base.specs.Number.{IsCell}
 use Rattle.apl_base.specs.Interval.{InInterval}
-use Rattle.array_store.specs.Stores.{IsOwner, IsStore, OwnerView, cells_of, kind_of, interval_of, owner_of}
+use Rattle.array_store.specs.Stores.{IsStore, OwnerView, kind_of, interval_of}
 use Rattle.array_store.specs.Places.{cells_along}
 use Rattle.array_store.proofs.PlaceLemmas.{All-cells_along}
 use Rattle.array_store.proofs.StoreLemmas.{IsOwner-held, owner_along, owner_of-found}
