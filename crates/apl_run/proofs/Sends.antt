@@ -1,7 +1,7 @@
 -- A text that goes to a sink in pieces.
 use Rattle.std.proofs.Common.{◌≡◌, ℕ, List, [], ◌++◌, take, drop, Option, Some, None, Result, Ok, Err, OnOk, OnErr, IfSome, refl, ap, sym, ◌∙◌, append_assoc, append-nil, inl, inr}
 use Rattle.std.proofs.lemmas.List.{take-append-drop}
-use Rattle.apl_outside.specs.Bytes.{Gains, GainsPart, after_adding}
+use Rattle.apl_outside.specs.Bytes.{Gains, GainsPart}
 use Rattle.apl_outside.proofs.Parts.{gains_then}
 use Rattle.apl_run.specs.Bytes.{GainsPrefix, GainsUnlessRose}
 
