@@ -19,7 +19,10 @@ positions_are_evaluated_from_the_last = script ("A←2 3⍴⍳6"
     ∷ statement_item 2 (expression
     (subscript
     (name "A" (at 2 1))
-    (positions (given (output (number 1 (at 2 5)) (at 2 3)) ∷ given (output (number 2 (at 2 9)) (at 2 7)) ∷ [])) (at 2 2)))
+    (positions
+    (given (output (number 1 (at 2 5)) (at 2 3))
+    ∷ given (output (number 2 (at 2 9)) (at 2 7))
+    ∷ [])) (at 2 2)))
     ∷ statement_item 3 (expression
     (writes "A"
     (positions (given (output (number 2 (at 3 5)) (at 3 3)) ∷ given (output (number 3 (at 3 9)) (at 3 7)) ∷ []))
