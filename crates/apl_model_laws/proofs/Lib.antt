@@ -8,5 +8,5 @@ pub mod Onwards
 pub mod Safe
 pub mod Scripts
 pub mod Spent
-pub mod Transposes
+pub mod TestedAxes
 pub mod Values
