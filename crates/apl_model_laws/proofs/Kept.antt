@@ -8,10 +8,9 @@ use Rattle.apl_model.specs.Call.{Routine, RoutineLine, entered, turn, on_turn, l
 use Rattle.apl_model.specs.Frames.{with_turn, with_ended, with_call, without_call, result_in}
 use Rattle.apl_model.specs.Environment.{Environment, look_up}
 use Rattle.apl_model.specs.Evaluation.{State, at_place, needed, origin_of, with_name, with_printed, replace_in, Calls, value_of, argument, positions_of, branch_by, branch_to, print_result, of_arrays, statement_flow}
-use Rattle.apl_model.specs.Order.{silently, show_value, expression_in}
 use Rattle.apl_model.specs.Outcome.{Outcome, done, fails, spent, and_then, Flow}
 use Rattle.apl_model.specs.Immediate.{of_states, Step, statement_step, command_step, obeyed, unwound, Ending, reported, Run, after_statement, run_steps}
-use Rattle.apl_model.specs.Tree.{Tree, Slot, Positions, Statement, constant, variable, call, parenthesis, monadic, dyadic, reduction, outer_product, inner_product, subscript, assignment, indexed_assignment, output, elided, given, no_position, position, nothing, branch, expression}
+use Rattle.apl_model.specs.Tree.{Tree, Slot, Positions, Statement}
 use Rattle.apl_model.specs.Whole.{Answer, is_empty, is_text}
 use Rattle.apl_model.specs.declared.scripts.Command.{Command}
 use Rattle.apl_model.specs.declared.scripts.Command.TheVariants.{Vars, Fns, Erase, Origin}
