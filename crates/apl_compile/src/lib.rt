@@ -1,0 +1,6 @@
+//! From the trees of a script to code: the instructions of each statement in the order of evaluation.
+#![tactic(auto)]
+
+mod codes;
+
+pub use codes::{Code, Instruction, Op};
