@@ -2,5 +2,6 @@
 #![tactic(auto)]
 
 mod codes;
+mod expressions;
 
 pub use codes::{Code, Instruction, Op};
