@@ -101,16 +101,12 @@ fn emit_positions(
 ) -> Result<(), NoMemory>
     ensures { OnOk result (code.new ≡ code.old ++ positions_code (positions_with positions.now)) }
 {
-    match positions {
-        [] => Ok(()),
-        [first, rest @ ..] => {
-            emit_positions(alloc, rest, code)?;
-            match first {
-                Some(e) => emit(alloc, e, code),
-                None => Ok(()),
-            }
+    for at in (0..positions.len()).rev() {
+        if let Some(e) = &positions[at] {
+            emit(alloc, e, code)?;
         }
     }
+    Ok(())
 }
 
 // One instruction more.

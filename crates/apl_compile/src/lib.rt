@@ -2,6 +2,8 @@
 #![tactic(auto)]
 
 mod codes;
+mod compiler;
 mod expressions;
 
 pub use codes::{Code, Instruction, Op};
+pub use compiler::compile;
