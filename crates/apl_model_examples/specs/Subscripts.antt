@@ -5,7 +5,7 @@ use Rattle.apl_model.specs.declared.functions.Axis.TheVariants as axis
 use Rattle.apl_model.specs.declared.functions.DyaFn.TheVariants as two
 use Rattle.apl_model.specs.declared.functions.MonFn.TheVariants as one
 use Rattle.apl_model.specs.Tree.{Script, parenthesis, monadic, dyadic, subscript, elided, given, expression, statement_item}
-use Rattle.apl_model_examples.specs.Words.{script, at, number, numbers, integers, negative, name, sets, writes, positions}
+use Rattle.apl_model_examples.specs.Words.{script, at, number, numbers, integers, negative, text, name, sets, writes, positions}
 
 -- a row, columns in a new order, and the last column by a negative count
 abbrev pub a_row_a_column_and_a_corner : Script
@@ -79,7 +79,7 @@ a_write_to_an_unset_name = script ("Q[1]←2" ∷ [])
 -- the positions give the axes of the result; places are written by their positions, and none where a position has no element
 abbrev pub positions_of_two_axes : Script
 positions_of_two_axes = script ("(⍳5)[2 2⍴⍳4]"
-    ∷ "(2 3⍴⍳6)[2 1;3 1]" ∷ "A←2 2⍴⍳4" ∷ "A[;2]←8 9" ∷ "A[2 1;1]←5 6" ∷ "A[⍳0;1]←7" ∷ "A" ∷ [])
+    ∷ "(2 3⍴⍳6)[2 1;3 1]" ∷ "A←2 2⍴⍳4" ∷ "A[;2]←8 9" ∷ "A[2 1;1]←5 6" ∷ "A[⍳0;1]←7" ∷ "A[⍳0;1]←''" ∷ "A" ∷ [])
     (statement_item 1 (expression
     (subscript
     (parenthesis (monadic one.Iota (number 5 (at 1 3)) (at 1 2)) (at 1 1))
@@ -106,5 +106,9 @@ positions_of_two_axes = script ("(⍳5)[2 2⍴⍳4]"
     (writes "A"
     (positions (given (monadic one.Iota (number 0 (at 6 4)) (at 6 3)) ∷ given (number 1 (at 6 6)) ∷ []))
     (number 7 (at 6 9)) (at 6 2)))
-    ∷ statement_item 7 (expression (name "A" (at 7 1)))
+    ∷ statement_item 7 (expression
+    (writes "A"
+    (positions (given (monadic one.Iota (number 0 (at 7 4)) (at 7 3)) ∷ given (number 1 (at 7 6)) ∷ []))
+    (text "" (at 7 9)) (at 7 2)))
+    ∷ statement_item 8 (expression (name "A" (at 8 1)))
     ∷ [])

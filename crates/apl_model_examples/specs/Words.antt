@@ -1,5 +1,5 @@
 -- The words in which the examples are written: the lines of a script, its trees, and what comes of it.
-use Rattle.std.specs.Prelude.{◌≡◌, ℕ, ℤ, pos, neg_ℤ, List, [], ◌∷◌, ◌++◌, Option, Some, None, map, length, reverse, codes, encode_utf8_all}
+use Rattle.std.specs.Prelude.{◌≡◌, ℕ, ℤ, pos, neg_ℤ, List, [], ◌∷◌, ◌++◌, Option, Some, None, map, reverse, codes, encode_utf8_all}
 use Rattle.std.specs.List.{AllByRecursion}
 use Prim.Native.String.{String}
 use Rattle.apl_base.specs.declared.cells.Kind.TheVariants.{Num, Char}
@@ -149,9 +149,6 @@ one_by_one n = map (λ k. (k, k)) (upward 1 n)
 -- the statements of one line that began with the numbers from m up, the last begun first
 abbrev pub innermost_first : ℕ → ℕ → ℕ → List (ℕ × ℕ)
 innermost_first line m n = map (λ k. (line, k)) (reverse (upward m n))
-
-abbrev pub statements_ended : Script → ℕ
-statements_ended s = length (immediate s 1000).ended
 
 abbrev pub origin_after : Script → ℤ
 origin_after s = (immediate s 1000).origin

@@ -36,5 +36,5 @@ pub fn examples_of_subscripts()
     ensures a_write_to_an_unset_name { Runs script.a_write_to_an_unset_name "VALUE ERROR\n      Q[1]←2\n       ^\n" reported [] }
     ensures positions_of_two_axes { RunsThrough script.positions_of_two_axes
         ("1 2" ∷ "3 4" ∷ "6 4" ∷ "3 1" ∷ "6 8" ∷ "5 9" ∷ [])
-        well (is_set "A" (number_table 2 2 (6 ∷ 8 ∷ 5 ∷ 9 ∷ [])) ∷ []) (one_by_one 7) }
+        well (is_set "A" (number_table 2 2 (6 ∷ 8 ∷ 5 ∷ 9 ∷ [])) ∷ []) (one_by_one 8) }
 {}

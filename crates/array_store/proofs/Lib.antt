@@ -1,3 +1,5 @@
 pub mod IntervalLemmas
 pub mod StoreLemmas
 pub mod FollowsLemmas
+pub mod CountingLemmas
+pub mod PlaceLemmas

@@ -1,11 +1,14 @@
-ghost use Rattle.std.specs.Prelude.{◌≡◌, ◌≢◌, ℕ, ◌+◌, ◌-◌, ◌<◌, ◌≤◌, ◌↔◌, [], length, All, IfOk, OnOk, OnErr, IsOkUnless, IsErrOf, vec_len, vec_capacity};
+ghost use Rattle.std.specs.Prelude.{◌≡◌, ◌≢◌, ℕ, ◌+◌, ◌-◌, ◌++◌, ◌<◌, ◌≤◌, ◌↔◌, [], length, All, IfOk, OnOk, OnErr, IsOkUnless, IsErrOf, vec_len, vec_capacity};
 ghost use Rattle.apl_base.specs.Number.{IsCell};
 ghost use Rattle.apl_base.specs.Interval.{InInterval};
-ghost use Rattle.array_store.specs.Stores.{IsOwner, IsStore, Makes, owner_of, holders_of, cells_of, kind_of, interval_of, cell_of, counted, empty_store, new_owner, with_holders, with_cell, without_owner};
+ghost use Rattle.array_store.specs.Stores.{IsOwner, IsStore, Makes, owner_of, HasRoom, holders_of, cells_of, kind_of, interval_of, cell_of, empty_store, new_owner, with_holders, with_cell, without_owner};
+ghost use Rattle.array_store.specs.Places.{PlacesWithin, cells_along};
+ghost use Rattle.array_store.specs.Counting.{OnlyFetched, OnlyComputed, after_fetches, after_applications};
 ghost use Rattle.array_store.specs.Follows.{Follows, none, one_of};
 
 use crate::hulls::{least_to_greatest, widened};
 use crate::ids::{BeginFault, Counts, OwnerId};
+use crate::places::copy_along;
 use apl_base::{Cell, Interval, Kind, NoMemory};
 use slab::Slab;
 use std::alloc::Global;
@@ -86,10 +89,11 @@ impl Store {
     pub fn begin(&self, asked: u64) -> Result<Vec<Cell>, BeginFault>
         ensures refused { IsErrOf result (BeginFault.WsFull self.now.live asked)
             ↔ (self.now.limit < self.now.live + asked) }
-        ensures within { OnOk result (self.now.live + asked ≤ self.now.limit) }
-        ensures other { self.now.live + asked ≤ self.now.limit → IsOkUnless result BeginFault.NoMemory }
+        ensures within { OnOk result (HasRoom self.now asked) }
+        ensures other { HasRoom self.now asked → IsOkUnless result BeginFault.NoMemory }
         ensures empty { IfOk result (λ cells. cells.items ≡ []) }
         ensures room { IfOk result (λ cells. asked ≤ vec_capacity cells) }
+        ensures store { IsStore self.now }
     {
         if asked > self.limit - self.live {
             return Err(BeginFault::WsFull {
@@ -102,7 +106,7 @@ impl Store {
 
     /// Takes these cells in as a new owner with one holder. After want of memory the store is unchanged.
     pub fn make(&mut self, cells: Vec<Cell>, kind: Kind) -> Result<OwnerId, NoMemory>
-        requires room { self.old.live + vec_len cells ≤ self.old.limit }
+        requires room { HasRoom self.old (vec_len cells) }
         requires lawful { All (IsCell kind) cells.items }
         ensures made { IfOk result (λ key. Makes self.old self.new key (new_owner cells.items kind)) }
         ensures follows { IfOk result (λ key. Follows self.old self.new none (one_of key)) }
@@ -130,15 +134,63 @@ impl Store {
         // So the owner is live: no other has a cell.
         requires { place < length (cells_of self.old owner) }
         ensures value { result ≡ cell_of self.old owner place }
-        ensures counted { self.new ≡ record self.old {
-          counts = record self.old.counts { fetched = counted self.old.counts.fetched 1 };
-        } }
+        ensures counted { self.new ≡ after_fetches self.old 1 }
+        ensures only { OnlyFetched self.old self.new 1 }
         ensures lawful { IsCell (kind_of self.old owner) result }
         ensures within { InInterval (interval_of self.old owner) result }
+        ensures store { IsStore self.new }
     {
         self.counts.fetched = self.counts.fetched.saturating_add(1);
         let read = &self.owners[owner.key];
         read.cells[place as usize]
+    }
+
+    /// Appends the cells at `count` places of an owner, `from`, `from + step` and so on, to a vector with room for
+    /// them. It counts a fetch for each, and takes no memory.
+    pub fn fetch_run(
+        &mut self,
+        owner: OwnerId,
+        from: Cell,
+        step: Cell,
+        count: u64,
+        into: &mut Vec<Cell>,
+    )
+        requires live { 0 < holders_of self.old owner }
+        requires places { PlacesWithin (length (cells_of self.old owner)) from step count }
+        requires room { vec_len into.old + count ≤ vec_capacity into.old }
+        ensures cells { into.new.items
+            ≡ into.old.items ++ cells_along (cells_of self.old owner) from step count }
+        ensures capacity { vec_capacity into.old ≤ vec_capacity into.new }
+        ensures counted { self.new ≡ after_fetches self.old count }
+        ensures only { OnlyFetched self.old self.new count }
+        ensures lawful { All (IsCell (kind_of self.old owner))
+            (cells_along (cells_of self.old owner) from step count) }
+        ensures within { All (InInterval (interval_of self.old owner))
+            (cells_along (cells_of self.old owner) from step count) }
+        ensures store { IsStore self.new }
+    {
+        let start = into.len();
+        let Ok(()) = into.resize(start + count as usize, 0) else {
+            unreachable!()
+        };
+        self.fetch_into(owner, from, step, &mut into[start..]);
+    }
+
+    /// Puts the cells at places of an owner, `from`, `from + step` and so on, into a slice, as many as it has. It
+    /// counts a fetch for each.
+    pub fn fetch_into(&mut self, owner: OwnerId, from: Cell, step: Cell, into: &mut [Cell])
+        requires live { 0 < holders_of self.old owner }
+        requires places { PlacesWithin (length (cells_of self.old owner)) from step (length into.old) }
+        ensures cells { into.new ≡ cells_along (cells_of self.old owner) from step (length into.old) }
+        ensures counted { self.new ≡ after_fetches self.old (length into.old) }
+        ensures only { OnlyFetched self.old self.new (length into.old) }
+        ensures lawful { All (IsCell (kind_of self.old owner)) into.new }
+        ensures within { All (InInterval (interval_of self.old owner)) into.new }
+        ensures store { IsStore self.new }
+    {
+        self.counts.fetched = self.counts.fetched.saturating_add(into.len() as u64);
+        let read = &self.owners[owner.key];
+        copy_along(read.cells.as_slice(), from, step, into);
     }
 
     /// Writes one cell in place. The owner's interval becomes the hull of what it was and the cell.
@@ -256,10 +308,19 @@ impl Store {
 
     /// Counts one scalar function applied to an element.
     pub fn count_applied(&mut self)
-        ensures { self.new ≡ record self.old {
-          counts = record self.old.counts { applied = counted self.old.counts.applied 1 };
-        } }
+        ensures counted { self.new ≡ after_applications self.old 1 }
+        ensures only { OnlyComputed self.old self.new 1 0 }
+        ensures store { IsStore self.new }
     {
         self.counts.applied = self.counts.applied.saturating_add(1);
+    }
+
+    /// Counts `n` scalar functions applied to elements.
+    pub fn count_applied_many(&mut self, n: u64)
+        ensures counted { self.new ≡ after_applications self.old n }
+        ensures only { OnlyComputed self.old self.new n 0 }
+        ensures store { IsStore self.new }
+    {
+        self.counts.applied = self.counts.applied.saturating_add(n);
     }
 }

@@ -1,42 +1,31 @@
--- The lengths of a transpose make a shape.
+-- The lengths of a transpose: grouped by the axes of the result, each length of the argument stands once.
 use Rattle.std.proofs.Common.{◌≡◌, ◌==◌, ℕ, zero, suc, ◌+◌, ◌*◌, ◌^◌, ◌<◌, ◌≤◌, Bool, true, false, if◌then◌else◌, List, [], ◌∷◌, length, map, get_or, refl, ap, ◌∙◌, arith}
 use Rattle.std.specs.List.{AllByRecursion}
-use Rattle.std.proofs.lemmas.Bool.Decides.{nat_tests}
 use Rattle.std.proofs.Math.Nat.{mul-le-mul}
 use Rattle.apl_base.specs.Array.{IsShape, size_of}
 use Rattle.apl_base.specs.Selection.{AreAxes, axes_rank, least, lengths_at, upward, transpose_shape}
+use Rattle.apl_base.proofs.Tests.{eqb-same, eqb-other, eqb-passed}
+use Rattle.apl_base.proofs.Upward.{length-map-upward, all-map-upward}
 
-length-over : {A : Type 0} (f : ℕ → A) (a k : ℕ) → length (map f (upward a k)) ≡ k
-length-over f a zero = refl
-length-over f a (suc k) = ap suc (length-over f (suc a) k)
-
-is_same : (x y : ℕ) → x ≡ y → (x == y) ≡ true
-is_same x y e = grind (arith, nat_tests)
-
-is_other : (x a m : ℕ) → x ≡ a + suc m → (x == a) ≡ false
-is_other x a m e = grind (arith, nat_tests)
-
-is_passed : (x a : ℕ) → x < a → (x == a) ≡ false
-is_passed x a p = grind (arith, nat_tests)
-
-below_next : (x a : ℕ) → x < a → x < suc a
+-- a number below one is below the next
+pub below_next : (x a : ℕ) → x < a → x < suc a
 below_next x a p = omega arith
 
 size_passed : (f : ℕ → List ℕ) (x n a k : ℕ) → x < a → size_of (map (λ r. size_of (if x == r then n ∷ f r else f r)) (upward a k)) ≡ size_of (map (λ r. size_of (f r)) (upward a k))
 size_passed f x n a zero p = refl
 size_passed f x n a (suc k) p =
-    let e = is_passed x a p in
+    let e = eqb-passed x a p in
     let h = size_passed f x n (suc a) k (below_next x a p) in
     rw (e, h) refl
 
 size_more : (f : ℕ → List ℕ) (x n a m k : ℕ) → x ≡ a + m → m < k → size_of (map (λ r. size_of (if x == r then n ∷ f r else f r)) (upward a k)) ≡ n * size_of (map (λ r. size_of (f r)) (upward a k))
 size_more f x n a m zero e p = absurd (omega (arith, p))
 size_more f x n a zero (suc k) e p =
-    let b = is_same x a (omega (arith, e)) in
+    let b = eqb-same x a (omega (arith, e)) in
     let h = size_passed f x n (suc a) k (omega (arith, e)) in
     rw (b, h) (omega arith)
 size_more f x n a (suc m) (suc k) e p =
-    let b = is_other x a m e in
+    let b = eqb-other x a m e in
     let h = size_more f x n (suc a) m k (omega (arith, e)) (omega (arith, p)) in
     let g = ap (λ v. size_of (f a) * v) h in
     rw b (omega (arith, g))
@@ -73,7 +62,7 @@ total_passed : (f : ℕ → List ℕ) (x n a k : ℕ) → x < a → total (λ r.
 unfolding total
 total_passed f x n a zero p = refl
 total_passed f x n a (suc k) p =
-    let e = is_passed x a p in
+    let e = eqb-passed x a p in
     let h = total_passed f x n (suc a) k (below_next x a p) in
     rw (e, h) refl
 
@@ -81,11 +70,11 @@ total_more : (f : ℕ → List ℕ) (x n a m k : ℕ) → x ≡ a + m → m < k 
 unfolding total
 total_more f x n a m zero e p = absurd (omega (arith, p))
 total_more f x n a zero (suc k) e p =
-    let b = is_same x a (omega (arith, e)) in
+    let b = eqb-same x a (omega (arith, e)) in
     let h = total_passed f x n (suc a) k (omega (arith, e)) in
     rw (b, h) (omega arith)
 total_more f x n a (suc m) (suc k) e p =
-    let b = is_other x a m e in
+    let b = eqb-other x a m e in
     let h = total_more f x n (suc a) m k (omega (arith, e)) (omega (arith, p)) in
     rw b (omega (arith, h))
 
@@ -110,18 +99,19 @@ total_at_least f a (suc k) h =
     omega (arith, h a (omega arith) (omega arith), r)
 
 -- an axis of the result that is among the numbers has a length
-longer : (r n : ℕ) (t : Bool) (ms : List ℕ) → 0 < length ms → 0 < length (if t then n ∷ ms else ms)
-longer r n true ms h = omega arith
-longer r n false ms h = h
+longer : (n : ℕ) (t : Bool) (ms : List ℕ) → 0 < length ms → 0 < length (if t then n ∷ ms else ms)
+longer n true ms h = omega arith
+longer n false ms h = h
 
 has_length : (r : ℕ) (axes ns : List ℕ) (j : ℕ) → length axes ≡ length ns → j < length axes → get_or axes j r ≡ r → 0 < length (lengths_at r axes ns)
 has_length r [] ns j l p e = absurd (omega (arith, p))
 has_length r (a ∷ axes) [] j l p e = absurd (omega (arith, l))
-has_length r (a ∷ axes) (n ∷ ns) zero l p e = let b = is_same a r e in rw b (omega arith)
+has_length r (a ∷ axes) (n ∷ ns) zero l p e = let b = eqb-same a r e in rw b (omega arith)
 has_length r (a ∷ axes) (n ∷ ns) (suc j) l p e =
-    longer r n (a == r) (lengths_at r axes ns) (has_length r axes ns j (omega (arith, l)) (omega (arith, p)) e)
+    longer n (a == r) (lengths_at r axes ns) (has_length r axes ns j (omega (arith, l)) (omega (arith, p)) e)
 
-few_axes : (axes ns : List ℕ) → AreAxes (axes_rank axes) axes → length axes ≡ length ns → axes_rank axes ≤ length ns
+-- a transpose has at most as many axes as the argument
+pub few_axes : (axes ns : List ℕ) → AreAxes (axes_rank axes) axes → length axes ≡ length ns → axes_rank axes ≤ length ns
 few_axes axes ns x l =
     let k = axes_rank axes in
     let t = total_at_least (λ r. length (lengths_at r axes ns)) 0 k (λ r p q. let m = x.each r (omega (arith, q)) in has_length r axes ns m.0 l m.1 m.2) in
@@ -141,10 +131,7 @@ lengths_within b r [] ns h = tt
 lengths_within b r (a ∷ axes) [] h = tt
 lengths_within b r (a ∷ axes) (n ∷ ns) h = put_on b n (a == r) (lengths_at r axes ns) h.0 (lengths_within b r axes ns h.1)
 
-all_over : (b : ℕ) (f : ℕ → ℕ) (a k : ℕ) → ((r : ℕ) → f r ≤ b) → AllByRecursion (λ n. n ≤ b) (map f (upward a k))
-all_over b f a zero h = tt
-all_over b f a (suc k) h = (h a, all_over b f (suc a) k h)
-
+-- the lengths of a transpose make a shape
 pub transposed_shape : (axes ns : List ℕ) → AreAxes (axes_rank axes) axes → length axes ≡ length ns → IsShape ns → IsShape (transpose_shape axes ns)
 transposed_shape axes ns x l s =
     let k = axes_rank axes in
@@ -153,7 +140,7 @@ transposed_shape axes ns x l s =
     let a = size_over_le f g 0 k (λ r. least_below_size (lengths_at r axes ns)) in
     let b = size_grouped k axes ns x.below l in
     record {
-      rank = omega (arith, length-over f 0 k, few_axes axes ns x l, s.rank);
-      each = all_over (2 ^ 40) f 0 k (λ r. least_within (2 ^ 40) (lengths_at r axes ns) (lengths_within (2 ^ 40) r axes ns s.each));
+      rank = omega (arith, length-map-upward f 0 k, few_axes axes ns x l, s.rank);
+      each = all-map-upward (λ n. n ≤ 2 ^ 40) f 0 k (λ r low high. least_within (2 ^ 40) (lengths_at r axes ns) (lengths_within (2 ^ 40) r axes ns s.each));
       product = omega (arith, a, b, s.product);
     }
