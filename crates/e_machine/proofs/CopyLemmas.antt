@@ -105,8 +105,11 @@ IsCopy-made old between new leaf copy key cells f are makes view =
     let made : Makes between new key (new_owner all (leaf_kind leaf)) =
     subst (λ (cs : List ℤ). Makes between new key (new_owner cs (leaf_kind leaf))) are makes in
     record {
-      key = key;
-      view = view;
-      made = record { between = between; counts = f; makes = made };
+      made = record {
+        key = key;
+        count = length-leaf_array old leaf;
+        view = view;
+        made = record { between = between; counts = f; makes = made };
+      };
       stands = stands-made between new key all (leaf_shape leaf) (leaf_kind leaf) copy made (length-leaf_array old leaf) view;
     }

@@ -1,5 +1,5 @@
 -- Lemmas on what is answered: leaves that stand for what a segment means, and what was counted.
-use Rattle.std.proofs.Common.{◌≡◌, ℕ, zero, suc, ◌+◌, ◌^◌, ◌<◌, ◌≤◌, ℤ, pos, false, IsTrue, List, [], ◌∷◌, length, map, get_or, Option, Some, refl, sym, ap, ◌∙◌, subst, arith}
+use Rattle.std.proofs.Common.{◌≡◌, ℕ, zero, suc, ◌+◌, ◌^◌, ◌<◌, ◌≤◌, ℤ, pos, false, IsTrue, List, [], ◌∷◌, length, map, get_or, Option, Some, None, refl, sym, ap, ◌∙◌, subst, arith}
 use Rattle.std.specs.Prelude.{slice_get}
 use Rattle.std.specs.Option.{option_map}
 use Rattle.std.specs.List.{AllByRecursion}
@@ -25,7 +25,7 @@ use Rattle.drag_along.specs.Meaning.{Means, Faults, pending, leaf_cell, leaf_arr
 use Rattle.drag_along.specs.Lawful.{LeafWithin, MeansWithin, IsLawful}
 use Rattle.drag_along.specs.Views.{IsWholeView, StandsForArray, only_leaf}
 use Rattle.drag_along.proofs.EntryLemmas.{only_meaning}
-use Rattle.e_machine.specs.Forced.{HasRoom, IsValueOf, IsMade, IsFault, elements_of, applications, fetches}
+use Rattle.e_machine.specs.Forced.{HasRoom, IsHeld, IsMade, IsHeldOrMade, IsForced, IsFault, elements_of, applications, fetches}
 use Rattle.e_machine.specs.Runs.{Rises, ComputedJust, ComputedUpTo, HasElements}
 use Rattle.e_machine.proofs.WholeLemmas.{stands-made}
 
@@ -127,25 +127,25 @@ answer_fault old new g k x place seg fault there is room small cost = record {
 }
 
 -- the array of the cells, in a leaf that reads a new owner
-pub answer_value : (old between new : StoreView) (g : SegmentView) (cells : List ℤ) (key : ℕ) (leaf : Leaf) → IsSegment g → HasElements old between g cells → IsWholeView key g.shape Num leaf → Makes between new key (new_owner cells Num) → IsValueOf old new g leaf
-answer_value old between new g cells key leaf seg has view makes = record {
-  array = record { kind = Num; shape = g.shape; cells = cells };
-  means = sym (only_meaning old g (Means (record { kind = Num; shape = g.shape; cells = cells })) seg has.array);
-  stands = stands-made between new key cells g.shape Num leaf makes has.array.count view;
-}
-
-pub answer_made : (old between new : StoreView) (g : SegmentView) (cells : List ℤ) (key : ℕ) (leaf : Leaf) → IsSegment g → AreMachineCounts old.counts → HasElements old between g cells → IsWholeView key g.shape Num leaf → Makes between new key (new_owner cells Num) → IsMade old new g leaf
-answer_made old between new g cells key leaf seg small has view makes = record {
-  key = key;
-  array = record { kind = Num; shape = g.shape; cells = cells };
-  means = sym (only_meaning old g (Means (record { kind = Num; shape = g.shape; cells = cells })) seg has.array);
-  view = view;
-  made = record {
-    between = between;
-    counts = computed_all old between (applications g) (fetches g) small has.just;
-    makes = makes;
-  };
-}
+pub answer_made : (old between new : StoreView) (g : SegmentView) (cells : List ℤ) (key : ℕ) (leaf : Leaf) → IsSegment g → only_leaf g.nodes ≡ None → AreMachineCounts old.counts → HasElements old between g cells → IsWholeView key g.shape Num leaf → Makes between new key (new_owner cells Num) → IsForced old new g leaf
+answer_made old between new g cells key leaf seg many small has view makes =
+    let a : Array = record { kind = Num; shape = g.shape; cells = cells } in
+    let made : IsMade old new g a leaf = record {
+      key = key;
+      count = has.array.count;
+      view = view;
+      made = record {
+        between = between;
+        counts = computed_all old between (applications g) (fetches g) small has.just;
+        makes = makes;
+      };
+    } in
+    record {
+      array = a;
+      means = sym (only_meaning old g (Means a) seg has.array);
+      stands = stands-made between new key cells g.shape Num leaf makes has.array.count view;
+      comes = subst (λ (o : Option Leaf). IsHeldOrMade old new g a o leaf) (sym many) made;
+    }
 
 -- a segment of one leaf means that leaf's array
 one_node : (xs : List Node) (leaf : Leaf) → only_leaf xs ≡ Some leaf → xs ≡ Operand leaf ∷ []
@@ -162,16 +162,18 @@ entry_of_leaf : (s : StoreView) (g : SegmentView) (leaf : Leaf) → only_leaf g.
 unfolding entry
 entry_of_leaf s g leaf one = ap (λ (xs : List Node). newest (after_nodes s g.shape xs (pending []))) (one_node g.nodes leaf one)
 
-pub answer_held : (old new : StoreView) (g : SegmentView) (leaf held : Leaf) → IsSegment g → only_leaf g.nodes ≡ Some leaf → StandsForArray new held (leaf_array old (leaf_shape leaf) leaf) → IsValueOf old new g held
-answer_held old new g leaf held seg one stands =
+pub answer_held : (old new : StoreView) (g : SegmentView) (leaf held : Leaf) → IsSegment g → only_leaf g.nodes ≡ Some leaf → IsHeld old new leaf held → StandsForArray new held (leaf_array old (leaf_shape leaf) leaf) → IsForced old new g held
+answer_held old new g leaf held seg one same stands =
     let leaves : AllLeaves (HasShape g.shape) (Operand leaf ∷ []) = subst (AllLeaves (HasShape g.shape)) (one_node g.nodes leaf one) seg.leaves in
+    let a : Array = leaf_array old (leaf_shape leaf) leaf in
     record {
-      array = leaf_array old (leaf_shape leaf) leaf;
+      array = a;
       means = entry_of_leaf old g leaf one ∙ ap (λ (ns : List ℕ). Means (leaf_array old ns leaf)) (sym leaves.0.same);
       stands = stands;
+      comes = subst (λ (o : Option Leaf). IsHeldOrMade old new g a o held) (sym one) same;
     }
 
 -- the elements of what is answered lie in the segment's range, where it may not fail
-pub answer_within : (old new : StoreView) (g : SegmentView) (leaf : Leaf) → IsLawful old g → IsValueOf old new g leaf → g.may_fail ≡ false → LeafWithin new leaf g.range
+pub answer_within : (old new : StoreView) (g : SegmentView) (leaf : Leaf) → IsLawful old g → IsForced old new g leaf → g.may_fail ≡ false → LeafWithin new leaf g.range
 answer_within old new g leaf lawful value safe =
     stands_within new leaf value.array g.range value.stands (subst (MeansWithin g.range) value.means (lawful.sound safe))

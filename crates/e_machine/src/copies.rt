@@ -4,11 +4,11 @@ ghost use Rattle.apl_base.specs.Number.{IsCell};
 ghost use Rattle.array_store.specs.Stores.{IsStore};
 ghost use Rattle.array_store.specs.Counting.{OnlyFetched};
 ghost use Rattle.array_store.specs.Follows.{Follows, none};
-ghost use Rattle.drag_along.specs.Nodes.{leaf_kind, leaf_shape, named_by_leaf};
+ghost use Rattle.drag_along.specs.Nodes.{leaf_kind, leaf_shape};
 ghost use Rattle.drag_along.specs.Lawful.{IsLawfulLeaf};
 ghost use Rattle.drag_along.specs.Meaning.{leaf_array};
 ghost use Rattle.drag_along.specs.Views.{IsWholeView};
-ghost use Rattle.e_machine.specs.Forced.{HasRoom, IsCopy, IsCopyFault};
+ghost use Rattle.e_machine.specs.Forced.{HasRoom, IsCopy, IsCopyFault, named_by_answer};
 
 use crate::reads::read_at;
 use apl_base::{Cell, Kind, Shape};
@@ -23,7 +23,7 @@ pub fn own(leaf: &Leaf, store: &mut Store) -> Result<Leaf, BeginFault>
     requires { IsLawfulLeaf store.old leaf.now }
     ensures copy { IfOk result (IsCopy store.old store.new leaf.now) }
     ensures room { OnOk result (HasRoom store.old (size_of (leaf_shape leaf.now))) }
-    ensures follows { IfOk result (λ copy. Follows store.old store.new none (named_by_leaf copy)) }
+    ensures follows { Follows store.old store.new none (named_by_answer result) }
     ensures refused { IfErr result (IsCopyFault store.old store.new leaf.now) }
     ensures store { IsStore store.new }
 {

@@ -7,7 +7,7 @@ ghost use Rattle.drag_along.specs.Segments.{IsSegment};
 ghost use Rattle.drag_along.specs.Meaning.{leaf_array};
 ghost use Rattle.drag_along.specs.Lawful.{IsLawful, IsLawfulLeaf, LeafWithin};
 ghost use Rattle.drag_along.specs.Views.{StandsForArray, only_leaf};
-ghost use Rattle.e_machine.specs.Forced.{MayBeHeld, HasRoom, HasRoomFor, IsValueOf, IsHeld, IsMade, IsForced, IsForceFault, elements_of};
+ghost use Rattle.e_machine.specs.Forced.{MayBeHeld, HasRoom, HasRoomFor, IsHeld, IsForced, IsForceFault, elements_of, named_by_answer};
 
 use crate::copies::whole_view;
 use crate::engine::compute;
@@ -23,11 +23,10 @@ use drag_along::{Leaf, Node, Segment};
 pub fn force(s: &Segment, store: &mut Store) -> Result<Leaf, ForceFault>
     requires lawful { IsLawful store.old s.now }
     requires holders { ForSome (only_leaf s.now.nodes) (MayBeHeld store.old u128.MAX) }
-    ensures value { IfOk result (IsValueOf store.old store.new s.now) }
+    ensures forced { IfOk result (IsForced store.old store.new s.now) }
     ensures within { IfOk result (λ leaf. s.now.may_fail ≡ false → LeafWithin store.new leaf s.now.range) }
-    ensures forced { IfOk result (IsForced store.old store.new s.now (only_leaf s.now.nodes)) }
     ensures room { OnOk result (HasRoomFor store.old s.now) }
-    ensures follows { IfOk result (λ leaf. Follows store.old store.new none (named_by_leaf leaf)) }
+    ensures follows { Follows store.old store.new none (named_by_answer result) }
     ensures refused { IfErr result (IsForceFault store.old store.new s.now) }
     ensures store { IsStore store.new }
     ensures segment { IsSegment s.now }
@@ -68,10 +67,9 @@ fn held(leaf: &Leaf, store: &mut Store) -> Leaf
 fn computed(s: &Segment, store: &mut Store) -> Result<Leaf, ForceFault>
     requires lawful { IsLawful store.old s.now }
     requires many { only_leaf s.now.nodes ≡ None }
-    ensures value { IfOk result (IsValueOf store.old store.new s.now) }
-    ensures made { IfOk result (IsMade store.old store.new s.now) }
+    ensures forced { IfOk result (IsForced store.old store.new s.now) }
     ensures room { OnOk result (HasRoom store.old (elements_of s.now)) }
-    ensures follows { IfOk result (λ leaf. Follows store.old store.new none (named_by_leaf leaf)) }
+    ensures follows { Follows store.old store.new none (named_by_answer result) }
     ensures refused { IfErr result (IsForceFault store.old store.new s.now) }
     ensures store { IsStore store.new }
 {
