@@ -27,7 +27,7 @@ pub record Ended : Type 0 where
 
 -- where a run stands
 pub record State : Type 0 where
-  pub variables : Environment
+  pub variables : Environment Array
   -- the characters printed so far
   pub printed : List ℕ
   -- how many statements may still begin, and how many have
@@ -49,8 +49,11 @@ needed place None s = fails error.Value place s
 abbrev pub origin_of : State → ℤ
 origin_of s = s.variables.origin
 
+abbrev pub with_variables : Environment Array → State → State
+with_variables e s = record s { variables = e }
+
 abbrev pub with_name : List ℕ → Array → State → State
-with_name name a s = record s { variables = set_name s.variables name a }
+with_name name a s = with_variables (set_name s.variables name a) s
 
 abbrev pub with_printed : List ℕ → State → State
 with_printed text s = record s { printed = s.printed ++ text }

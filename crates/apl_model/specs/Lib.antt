@@ -3,6 +3,7 @@ pub mod Characters
 pub mod Environment
 pub mod Evaluation
 pub mod Examples
+pub mod Frames
 pub mod Grammar
 pub mod Immediate
 pub mod Items

@@ -16,7 +16,7 @@ use Rattle.apl_model.specs.Environment.{Environment, Bindings}
 use Rattle.apl_model.specs.Evaluation.{State, Calls, literal_array, monadic_value, dyadic_value, value_of, positions_of, statement_flow}
 use Rattle.apl_model.specs.Outcome.{Outcome, done, fails, spent}
 use Rattle.apl_model.specs.Grammar.{IsLiteral, IsExpression, ArePositions, IsStatement, IsCommand}
-use Rattle.apl_model.specs.Immediate.{routine, run_items, immediate}
+use Rattle.apl_model.specs.Immediate.{of_states, routine, run_items, immediate}
 use Rattle.apl_model.specs.Product.{reduce, outer, inner}
 use Rattle.apl_model.specs.Script.{headings, IsScript}
 use Rattle.apl_model.specs.Subscript.{subscript, replacement}
@@ -70,10 +70,10 @@ ReplacementsAreLawful = (o : ℤ) (a : Array) (ps : List (Option Array)) (b : Ar
 -- ---- evaluation over lawful variables
 
 -- each name that is set has a lawful array
-abbrev pub AreBindings : Bindings → Type 0
+abbrev pub AreBindings : Bindings Array → Type 0
 AreBindings bindings = AllByRecursion (λ (b : List ℕ × Option Array). IsOptional b.1) bindings
 
-pub record IsEnvironment (e : Environment) : Type 0 where
+pub record IsEnvironment (e : Environment Array) : Type 0 where
   pub globals : AreBindings e.globals
   pub frames : AllByRecursion AreBindings e.frames
   pub origin : IsOrigin e.origin
@@ -112,7 +112,7 @@ pub record IsRoutine (hs : List Heading) (r : Routine Statement) : Type 0 where
 -- the calls of such functions are lawful, however many more may be pending
 abbrev pub FunctionsAreLawful : Type 0
 FunctionsAreLawful = (hs : List Heading) (routines : List (Routine Statement)) → AllByRecursion (IsRoutine hs) routines →
-    (n : ℕ) → CallsAreLawful (call_within Statement statement_flow routines n)
+    (n : ℕ) → CallsAreLawful (call_within of_states statement_flow routines n)
 
 -- an item of the language
 abbrev pub IsLawfulItem : List Heading → Item → Type 0

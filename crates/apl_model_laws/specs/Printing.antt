@@ -5,7 +5,7 @@ use Rattle.apl_base.specs.Array.{Array}
 use Rattle.apl_model.specs.Call.{Routine, call_within}
 use Rattle.apl_model.specs.Evaluation.{State, Calls, value_of, positions_of, statement_flow}
 use Rattle.apl_model.specs.Outcome.{Outcome, done, fails, spent}
-use Rattle.apl_model.specs.Immediate.{run_items}
+use Rattle.apl_model.specs.Immediate.{of_states, run_items}
 use Rattle.apl_model.specs.Tree.{Tree, Positions, Statement, Script, Item}
 use Rattle.apl_model_laws.specs.Turns.{state_of}
 
@@ -38,7 +38,7 @@ StatementsPrintBehind = (calls : Calls) → CallsPrintBehind calls → (t : Stat
 
 -- the calls of functions do, however many more may be pending
 abbrev pub FunctionsPrintBehind : Type 0
-FunctionsPrintBehind = (routines : List (Routine Statement)) (n : ℕ) → CallsPrintBehind (call_within Statement statement_flow routines n)
+FunctionsPrintBehind = (routines : List (Routine Statement)) (n : ℕ) → CallsPrintBehind (call_within of_states statement_flow routines n)
 
 -- ---- what is printed stays
 
@@ -60,7 +60,7 @@ abbrev pub StatementsKeepPrinted : Type 0
 StatementsKeepPrinted = (calls : Calls) → CallsKeepPrinted calls → (t : Statement) → KeepsPrinted (statement_flow calls t)
 
 abbrev pub FunctionsKeepPrinted : Type 0
-FunctionsKeepPrinted = (routines : List (Routine Statement)) (n : ℕ) → CallsKeepPrinted (call_within Statement statement_flow routines n)
+FunctionsKeepPrinted = (routines : List (Routine Statement)) (n : ℕ) → CallsKeepPrinted (call_within of_states statement_flow routines n)
 
 -- what a run prints begins with what the run of its first items prints
 abbrev pub RunsBeginWithTheirPrefixes : Type 0

@@ -5,7 +5,7 @@ use Rattle.apl_base.specs.Array.{Array}
 use Rattle.apl_model.specs.Call.{Routine, call_within}
 use Rattle.apl_model.specs.Evaluation.{State, Calls, value_of, positions_of, statement_flow}
 use Rattle.apl_model.specs.Outcome.{Outcome, done, fails, spent}
-use Rattle.apl_model.specs.Immediate.{run_items, immediate}
+use Rattle.apl_model.specs.Immediate.{of_states, run_items, immediate}
 use Rattle.apl_model.specs.Tree.{Tree, Positions, Statement, Script, Item}
 
 -- where an outcome leaves the run
@@ -44,7 +44,7 @@ StatementsKeepTurns = (calls : Calls) → CallsKeepTurns calls → (t : Statemen
 
 -- the calls of functions do, however many more may be pending
 abbrev pub FunctionsKeepTurns : Type 0
-FunctionsKeepTurns = (routines : List (Routine Statement)) (n : ℕ) → CallsKeepTurns (call_within Statement statement_flow routines n)
+FunctionsKeepTurns = (routines : List (Routine Statement)) (n : ℕ) → CallsKeepTurns (call_within of_states statement_flow routines n)
 
 -- a run of n turns begins as many statements as it takes turns, and no more end
 pub record IsWithinTurns (n : ℕ) (s : State) : Type 0 where

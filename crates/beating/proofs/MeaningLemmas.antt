@@ -66,6 +66,7 @@ pub record IsSelection (by : Selection) (old new : SegmentView) : Type 0 where
   pub kind : new.kind ≡ old.kind
   pub nodes : SelectsNodes by old.nodes new.nodes
   pub range : new.range ≡ old.range
+  pub may_fail : new.may_fail ≡ old.may_fail
   pub descs : AllLeaves (λ leaf. IsDesc (leaf_desc leaf)) new.nodes
 
 -- its first leaf
@@ -81,6 +82,7 @@ is_segment by old new h =
       leaves = subst (λ (ns : List ℕ). AllLeaves (HasShape ns) new.nodes) (sym h.shape) (selected_shapes by old.shape old.nodes new.nodes h.nodes s.leaves h.descs);
       whole = selected_pending by old.nodes new.nodes h.nodes 0 ∙ s.whole;
       functions = omega (arith, selected_functions by old.nodes new.nodes h.nodes, s.functions);
+      failing = λ may. omega (arith, selected_functions by old.nodes new.nodes h.nodes, s.failing (sym h.may_fail ∙ may));
       kind = h.kind ∙ s.kind ∙ sym (selected_kinds by old.nodes new.nodes h.nodes);
       range = subst IsInterval (sym h.range) s.range;
     }
@@ -178,12 +180,13 @@ all_fit by ns (One f place ∷ nodes) g h = all_fit by ns nodes g h
 all_fit by ns (Two f place ∷ nodes) g h = all_fit by ns nodes g h
 
 -- so the new segment is a selection
-pub selection_is : (by : Selection) (old new : SegmentView) → IsSegment old → new.kind ≡ old.kind → new.range ≡ old.range → SelectsNodes by old.nodes new.nodes → AllLeaves (λ leaf. IsDesc (leaf_desc leaf)) new.nodes → ((ns : List ℕ) → AllLeaves (λ leaf. leaf_shape leaf ≡ ns) new.nodes → new.shape ≡ ns) → IsSelection by old new
-selection_is by old new s k r n d h = record {
+pub selection_is : (by : Selection) (old new : SegmentView) → IsSegment old → new.kind ≡ old.kind → new.range ≡ old.range → new.may_fail ≡ old.may_fail → SelectsNodes by old.nodes new.nodes → AllLeaves (λ leaf. IsDesc (leaf_desc leaf)) new.nodes → ((ns : List ℕ) → AllLeaves (λ leaf. leaf_shape leaf ≡ ns) new.nodes → new.shape ≡ ns) → IsSelection by old new
+selection_is by old new s k r m n d h = record {
   segment = s;
   shape = h (selected_shape by old.shape) (same_shapes (selected_shape by old.shape) new.nodes (selected_shapes by old.shape old.nodes new.nodes n s.leaves d));
   kind = k;
   nodes = n;
   range = r;
+  may_fail = m;
   descs = d;
 }

@@ -6,10 +6,14 @@ use Rattle.array_desc.specs.Desc.{DescView, number}
 use Rattle.array_store.specs.Stores.{StoreView, counted, cell_of}
 use Rattle.beating.specs.declared.runs.Run.{Run}
 
+-- number j of a run
+abbrev pub run_value : Run → ℕ → ℤ
+run_value r j = r.from +ℤ (r.step *ℤ pos j)
+
 -- the numbers are `n` from one on and a step apart. Fewer than two have step 0, and none begin at 0
 pub record IsRunOf (numbers : List ℤ) (r : Run) : Type 0 where
   pub count : r.n ≡ length numbers
-  pub each : (j : ℕ) → j < length numbers → slice_index_or numbers j (pos 0) ≡ r.from +ℤ (r.step *ℤ pos j)
+  pub each : (j : ℕ) → j < length numbers → slice_index_or numbers j (pos 0) ≡ run_value r j
   pub step : length numbers < 2 → r.step ≡ pos 0
   pub from : length numbers ≡ 0 → r.from ≡ pos 0
 

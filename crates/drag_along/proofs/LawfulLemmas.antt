@@ -32,6 +32,7 @@ IsSegment-one right f p nodes range m g few e lawful =
       leaves = AllLeaves-append (HasShape right.shape) right.nodes (One f p ∷ []) g.leaves tt;
       whole = pending_after-append right.nodes (One f p ∷ []) 0 1 g.whole;
       functions = omega (arith, functions_in-append right.nodes (One f p ∷ []));
+      failing = λ may. omega (arith, functions_in-append right.nodes (One f p ∷ []));
       kind = sym (kind_of_nodes-one right.nodes f p);
       range = lawful;
     })
@@ -48,6 +49,7 @@ IsSegment-two left right f p nodes range m g h same few e lawful =
       leaves = AllLeaves-append (HasShape right.shape) (right.nodes ++ left.nodes) (Two f p ∷ []) (AllLeaves-append (HasShape right.shape) right.nodes left.nodes h.leaves leaves) tt;
       whole = pending_after-append (right.nodes ++ left.nodes) (Two f p ∷ []) 0 2 both;
       functions = omega (arith, functions_in-append (right.nodes ++ left.nodes) (Two f p ∷ []), functions_in-append right.nodes left.nodes);
+      failing = λ may. omega (arith, functions_in-append (right.nodes ++ left.nodes) (Two f p ∷ []));
       kind = sym (kind_of_nodes-two (right.nodes ++ left.nodes) f p);
       range = lawful;
     })
@@ -101,7 +103,7 @@ length-zipped (x ∷ xs) [] n h g = absurd (omega (arith, h, g))
 length-zipped (x ∷ xs) (y ∷ ys) zero h g = absurd (omega (arith, h))
 length-zipped (x ∷ xs) (y ∷ ys) (suc n) h g = ap suc (length-zipped xs ys n (omega (arith, h)) (omega (arith, g)))
 
-length-upward : (from n : ℕ) → length (upward from n) ≡ n
+pub length-upward : (from n : ℕ) → length (upward from n) ≡ n
 length-upward from zero = refl
 length-upward from (suc n) = ap suc (length-upward (suc from) n)
 

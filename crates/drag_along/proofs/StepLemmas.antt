@@ -99,13 +99,13 @@ StepAgrees s sh x us (pending vs) =
 StepAgrees s sh x us (stopped p) =
     (i : List ℕ) × IsIndex sh i × IsTrue (fails_on x (column i us)) × (node_place x ≡ p)
 
-get_or-upward : (f : ℕ → ℤ) (from n k : ℕ) → k < n → get_or (map f (upward from n)) k (pos 0) ≡ f (from + k)
+pub get_or-upward : (f : ℕ → ℤ) (from n k : ℕ) → k < n → get_or (map f (upward from n)) k (pos 0) ≡ f (from + k)
 get_or-upward f from zero k below = absurd (omega (arith, below))
 get_or-upward f from (suc n) zero below = let e : from ≡ from + 0 = omega arith in ap f e
 get_or-upward f from (suc n) (suc k) below =
     let e : suc from + k ≡ from + suc k = omega arith in get_or-upward f (suc from) n k (omega arith) ∙ ap f e
 
-leaf_array-cell : (s : StoreView) (sh : List ℕ) (leaf : Leaf) (i : List ℕ) → IsIndex sh i → cell_at (leaf_array s sh leaf) i ≡ leaf_cell s leaf i
+pub leaf_array-cell : (s : StoreView) (sh : List ℕ) (leaf : Leaf) (i : List ℕ) → IsIndex sh i → cell_at (leaf_array s sh leaf) i ≡ leaf_cell s leaf i
 leaf_array-cell s sh leaf i index =
     get_or-upward (λ p. leaf_cell s leaf (index_at sh p)) 0 (size_of sh) (place_at sh i) (place_at-below sh i index)
     ∙ ap (λ p. leaf_cell s leaf (index_at sh p)) (zero_plus (place_at sh i)) ∙ ap (leaf_cell s leaf) (index_at-place_at sh i index)
