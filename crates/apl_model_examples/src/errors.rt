@@ -17,6 +17,7 @@ pub fn examples_of_errors()
         ∷ script.the_right_one_of_two_errors
         ∷ script.the_right_one_of_two_kinds_of_errors
         ∷ script.the_right_one_of_two_failing_quotients
+        ∷ script.an_axis_far_beyond_the_rank
         ∷ []) }
     ensures the_place_is_the_function_that_fails { Runs script.the_place_is_the_function_that_fails
         "DOMAIN ERROR\n      (7 6÷2 2)+1 1÷1 0\n                   ^\n" reported [] }
@@ -37,4 +38,6 @@ pub fn examples_of_errors()
     ensures the_right_one_of_two_failing_quotients { Runs script.the_right_one_of_two_failing_quotients
         "DOMAIN ERROR\n      (A÷2)+1÷B\n             ^\n"
         reported (is_set "A" (number_vector (7 ∷ 6 ∷ [])) ∷ is_set "B" (number_vector (1 ∷ 0 ∷ [])) ∷ []) }
+    ensures an_axis_far_beyond_the_rank { Runs script.an_axis_far_beyond_the_rank
+        "DOMAIN ERROR\n      1000000000000000000000000000000000000 2⍉1 1⍴5\n                                             ^\n" reported [] }
 {}
