@@ -1,17 +1,18 @@
 -- What the calls that compute elements answer and what they leave.
-use Rattle.std.specs.Prelude.{◌≡◌, ℕ, ◌+◌, ◌*◌, ◌<◌, ◌≤◌, length, Option, None, Some, Result, Ok, Err}
+use Rattle.std.specs.Prelude.{◌≡◌, ℕ, ◌*◌, length, Option, None, Some, Result, Ok, Err}
 use Rattle.apl_base.specs.declared.faults.Place.{Place}
 use Rattle.apl_base.specs.Array.{Array, size_of}
-use Rattle.array_store.specs.Stores.{StoreView, holders_of, new_owner, with_holders, counted}
-use Rattle.array_store.specs.Counting.{OnlyFetched, OnlyComputed, Computed, MakesAfter}
+use Rattle.array_store.specs.Stores.{StoreView, HasRoom, new_owner, counted}
+use Rattle.array_store.specs.Counting.{OnlyFetched, OnlyComputed, Computed, IsFull, MakesAfter}
 use Rattle.array_store.specs.Follows.{none}
 use Rattle.array_store.specs.declared.ids.BeginFault.{BeginFault}
 use Rattle.array_store.specs.declared.ids.BeginFault.TheVariants as begin
 use Rattle.drag_along.specs.declared.leaves.Leaf.{Leaf}
 use Rattle.drag_along.specs.declared.leaves.Leaf.TheVariants.{Stored, Gen}
-use Rattle.drag_along.specs.Nodes.{leaf_kind, leaf_shape, stored_in, functions_in, named_by_leaf}
+use Rattle.drag_along.specs.Nodes.{leaf_shape, stored_in, functions_in, named_by_leaf}
 use Rattle.drag_along.specs.Segments.{SegmentView}
 use Rattle.drag_along.specs.Meaning.{Means, Faults, leaf_array, entry}
+use Rattle.drag_along.specs.Holding.{HeldOnceMore}
 use Rattle.drag_along.specs.Views.{IsWholeView, StandsForArray, only_leaf}
 use Rattle.e_machine.specs.declared.faults.ForceFault.{ForceFault}
 use Rattle.e_machine.specs.declared.faults.ForceFault.TheVariants as force
@@ -26,19 +27,6 @@ applications segment = elements_of segment * functions_in segment.nodes
 
 abbrev pub fetches : SegmentView → ℕ
 fetches segment = elements_of segment * stored_in segment.nodes
-
--- the owner of the leaf, where it has one, may be held once more
-abbrev pub MayBeHeld : StoreView → ℕ → Leaf → Type 0
-MayBeHeld store most leaf = (key : ℕ) → 0 < named_by_leaf leaf key → holders_of store key < most
-
--- the owner of the leaf, where it has one, has a holder more, and nothing else changed
-abbrev pub HeldOnceMore : StoreView → StoreView → Leaf → Type 0
-HeldOnceMore old new (Stored owner desc kind) = new ≡ with_holders old owner (holders_of old owner + 1)
-HeldOnceMore old new (Gen desc kind) = new ≡ old
-
--- there is room for so many cells more
-abbrev pub HasRoom : StoreView → ℕ → Type 0
-HasRoom store asked = store.live + asked ≤ store.limit
 
 -- where the segment has to be computed there is room for its elements
 abbrev pub HasRoomFor : StoreView → SegmentView → Type 0
@@ -86,13 +74,6 @@ pub record IsFault (old new : StoreView) (segment : SegmentView) (place : Place)
   pub means : entry old segment ≡ Faults place
   pub room : HasRoom old (elements_of segment)
   pub counted : OnlyComputed old new (applications segment) (fetches segment)
-
--- there is no room for so many cells more, and nothing was done
-pub record IsFull (old new : StoreView) (size held wanted : ℕ) : Type 0 where
-  pub live : held ≡ old.live
-  pub asked : wanted ≡ size
-  pub full : old.limit < old.live + size
-  pub unchanged : new ≡ old
 
 -- why a segment is not forced: one that is a leaf always is. That memory is wanting has no stated cause, but that
 -- there was room
