@@ -1,5 +1,5 @@
 -- Facts on the product of a shape's lengths, on places and on indices.
-use Rattle.std.proofs.Common.{◌≡◌, ℕ, zero, suc, ◌+◌, ◌-◌, ◌*◌, ◌/◌, ◌%◌, ◌^◌, ◌<◌, ◌≤◌, min, List, [], ◌∷◌, ◌++◌, length, get_or, take, drop, refl, sym, ap, ◌∙◌, ◌⊎◌, inl, inr, arith, add-one, append_assoc, length-append}
+use Rattle.std.proofs.Common.{◌≡◌, ℕ, zero, suc, ◌+◌, ◌-◌, ◌*◌, ◌/◌, ◌%◌, ◌^◌, ◌<◌, ◌≤◌, min, List, [], ◌∷◌, ◌++◌, length, get_or, set, take, drop, refl, sym, ap, ◌∙◌, ◌⊎◌, inl, inr, arith, add-one, append_assoc, length-append}
 use Rattle.std.proofs.Math.Seq.{take-suc, drop-cons}
 use Rattle.std.proofs.Math.Nat.{div-add-mod, mul-div_cancel_left, mul-pos, mul-le-mul_right, le-mul_of_pos_right, mod-lt, div-lt_iff_lt-mul}
 use Rattle.std.proofs.Math.ListN.{drop_of_length-le}
@@ -59,6 +59,22 @@ IsIndex-length [] [] h = refl
 IsIndex-length (n ∷ ns) (i ∷ is) h = ap suc (IsIndex-length ns is h.1)
 IsIndex-length [] (i ∷ is) h = absurd h
 IsIndex-length (n ∷ ns) [] h = absurd h
+
+-- an index has a number below each length
+pub IsIndex-below : (ns is : List ℕ) (k : ℕ) → IsIndex ns is → k < length ns → get_or is k 0 < get_or ns k 0
+IsIndex-below [] [] k h b = absurd (omega arith)
+IsIndex-below (n ∷ ns) (i ∷ is) zero h b = h.0
+IsIndex-below (n ∷ ns) (i ∷ is) (suc k) h b = IsIndex-below ns is k h.1 (omega arith)
+IsIndex-below [] (i ∷ is) k h b = absurd h
+IsIndex-below (n ∷ ns) [] k h b = absurd h
+
+-- with another number on one axis, below that axis's length, it is an index
+pub IsIndex-set : (ns is : List ℕ) (k v : ℕ) → IsIndex ns is → (k < length ns → v < get_or ns k 0) → IsIndex ns (set is k v)
+IsIndex-set [] [] k v h b = tt
+IsIndex-set (n ∷ ns) (i ∷ is) zero v h b = (b (omega arith), h.1)
+IsIndex-set (n ∷ ns) (i ∷ is) (suc k) v h b = (h.0, IsIndex-set ns is k v h.1 (λ l. b (omega arith)))
+IsIndex-set [] (i ∷ is) k v h b = absurd h
+IsIndex-set (n ∷ ns) [] k v h b = absurd h
 
 -- where there is an index, no length is 0
 pub IsIndex-positive : (ns is : List ℕ) → IsIndex ns is → 0 < size_of ns

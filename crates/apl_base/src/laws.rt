@@ -25,6 +25,13 @@ pub fn index_laws()
     ensures rows { (n : ℕ) (ns : List ℕ) → indices (n ∷ ns) ≡ flat_map (λ i. map (λ is. i ∷ is) (indices ns)) (upward 0 n) }
 {}
 
+/// Worked examples of the indices of a shape.
+pub fn index_examples()
+    ensures vector { indices (3 ∷ []) ≡ (0 ∷ []) ∷ (1 ∷ []) ∷ (2 ∷ []) ∷ [] }
+    ensures matrix { indices (2 ∷ 2 ∷ []) ≡ (0 ∷ 0 ∷ []) ∷ (0 ∷ 1 ∷ []) ∷ (1 ∷ 0 ∷ []) ∷ (1 ∷ 1 ∷ []) ∷ [] }
+    ensures none { (indices (2 ∷ 0 ∷ []) ≡ []) × (indices (0 ∷ 2 ∷ []) ≡ []) }
+{}
+
 /// Laws of arrays that are made index by index: the cells are those at the indices in order, the cell at an index
 /// is the one given there, and an array is that of its own cells.
 pub fn tabulation_laws()

@@ -1,3 +1,4 @@
+pub mod Agreement
 pub mod Bridge
 pub mod Machine
 pub mod Complete
@@ -12,3 +13,4 @@ pub mod DefinitionRows
 pub mod DepthRow
 pub mod ClassRow
 pub mod AcceptedItems
+pub mod Mapped

@@ -8,8 +8,9 @@ use Rattle.apl_base.specs.declared.faults.ErrorKind.TheVariants as error
 use Rattle.apl_base.specs.declared.rows.Mon.{Mon}
 use Rattle.apl_base.specs.declared.rows.Dya.{Dya}
 use Rattle.apl_base.specs.Array.{Array, size_of}
+use Rattle.apl_base.specs.Elements.{element, elements, numbers, all_defined}
 use Rattle.apl_base.specs.Scalar.{scalar1, scalar2}
-use Rattle.apl_model.specs.Whole.{Answer, is_single, elements, element, first, all_defined, or_domain, numbers}
+use Rattle.apl_model.specs.Whole.{Answer, is_single, first, or_domain}
 
 -- Lengths that are alike fit; one element extends to the other's shape, and of two single operands the one of
 -- greater rank gives the shape. Of others unequal ranks are a RANK ERROR, unequal lengths a LENGTH ERROR.

@@ -5,7 +5,7 @@
 -- as numbers where its kind would be a DOMAIN ERROR.
 use Rattle.std.specs.Prelude.{ℕ, suc, ◌+◌, ◌-◌, ◌%◌, ◌==◌, nat_le, nat_lt, ℤ, pos, negsuc, ◌+ℤ◌, ◌-ℤ◌, ◌*ℤ◌, int_lt, int_le, unsigned_abs, Bool, true, false, not, ◌&&◌, ◌||◌, List, [], ◌∷◌, ◌++◌, map, reverse, length, replicate, take, remove, slice_index, slice_index_or, slice_set, Option, Some, None, Ok, nat_eq, if◌then◌else◌}
 use Rattle.std.specs.Cmp.Lexicographic.{pointwise}
-use Rattle.std.specs.List.{list_all, list_any, position_or_len}
+use Rattle.std.specs.List.{flat_map, list_all, list_any, position_or_len}
 use Rattle.std.specs.Option.{option_map, option_and_then}
 use Rattle.std.specs.Int.{int_rem_euclid, int_div_euclid}
 use Rattle.std.specs.Ordering.{int_eq}
@@ -13,11 +13,12 @@ use Rattle.apl_base.specs.declared.cells.Kind.{Kind}
 use Rattle.apl_base.specs.declared.cells.Kind.TheVariants.{Num}
 use Rattle.apl_base.specs.declared.faults.ErrorKind.TheVariants as error
 use Rattle.apl_base.specs.Array.{Array, size_of, cell_at}
+use Rattle.apl_base.specs.Elements.{elements, all_defined, tabulated, gathered}
 use Rattle.apl_base.specs.Scalar.{is_same, is_same_kind, in_range, residue, truth}
-use Rattle.apl_base.specs.Selection.{upward, reverse_index, drop_shape, drop_index, axes_rank, transpose_shape, transpose_index}
+use Rattle.apl_base.specs.Selection.{upward, reverse_index, drop_shape, drop_index, transpose_shape, transpose_index}
 use Rattle.apl_model.specs.declared.functions.Axis.{Axis}
 use Rattle.apl_model.specs.declared.functions.Axis.TheVariants.{Last, First, Numbered}
-use Rattle.apl_model.specs.Whole.{Answer, rank, count, is_single, is_empty, is_text, is_extendable, elements, first, tabulated, vector, scalar, selected, fill, error_if, within_limit, all_defined, or_domain}
+use Rattle.apl_model.specs.Whole.{Answer, rank, count, is_single, is_empty, is_text, is_extendable, first, vector, scalar, fill, error_if, error_or, within_limit, or_domain}
 
 -- ---- words
 
@@ -94,7 +95,7 @@ catenate a b =
 -- ---- ⌽B, ⌽[K]B, ⊖B: reversed along the axis
 
 abbrev pub reversed : ℤ → Axis → Array → Answer
-reversed o axis b = on_axis o axis (rank b) (λ k. Ok (selected b.shape (reverse_index b.shape k) b))
+reversed o axis b = on_axis o axis (rank b) (λ k. Ok (gathered b.shape (reverse_index b.shape k) b))
 
 -- ---- A⌽B, A⌽[K]B, A⊖B: element i of the axis is element i + a modulo the length
 
@@ -110,12 +111,12 @@ rotated o axis a b = on_axis o axis (rank b) (λ k.
     error_if error.Rank (not (is_single a) && not (rank a + 1 == rank b))
     (error_if error.Length (not (is_single a) && not (pointwise nat_eq a.shape (remove b.shape k)))
     (error_if error.Domain (is_text a)
-    (Ok (selected b.shape (λ is. turned_index b.shape k (turn a k is) is) b)))))
+    (Ok (gathered b.shape (λ is. turned_index b.shape k (turn a k is) is) b)))))
 
 -- ---- ⍉B: the axes in reverse order (own)
 
 abbrev pub flipped : Array → Answer
-flipped b = Ok (selected (reverse b.shape) reverse b)
+flipped b = Ok (gathered (reverse b.shape) reverse b)
 
 -- ---- A⍉B: axis i of B becomes the axis that A's element i names; axes that fall together give the diagonal
 
@@ -123,19 +124,20 @@ flipped b = Ok (selected (reverse b.shape) reverse b)
 abbrev pub less_origin : ℤ → Array → List ℤ
 less_origin o a = map (λ z. z -ℤ o) a.cells
 
--- exactly 0 to k - 1 for some k
+-- exactly 0 to k - 1 for some k: none is below 0, and with each but 0 there is the number before it
+abbrev pub is_axis_among : List ℤ → ℤ → Bool
+is_axis_among zs z = int_le (pos 0) z && (int_eq z (pos 0) || list_any (int_eq (z -ℤ pos 1)) zs)
+
 abbrev pub are_axes : List ℤ → Bool
-are_axes zs =
-    let axes = map unsigned_abs zs in
-    list_all (int_le (pos 0)) zs && list_all (λ r. list_any (λ a. a == r) axes) (upward 0 (axes_rank axes))
+are_axes zs = list_all (is_axis_among zs) zs
 
 abbrev pub transposed : ℤ → Array → Array → Answer
 transposed o a b =
     let axes = map unsigned_abs (less_origin o a) in
     error_if error.Rank (is_above_one a)
     (error_if error.Length (not (count a == rank b))
-    (error_if error.Domain (is_text a || not (are_axes (less_origin o a)))
-    (Ok (selected (transpose_shape axes b.shape) (transpose_index axes) b))))
+    (error_or error.Domain (is_text a || not (are_axes (less_origin o a)))
+    (λ _. Ok (gathered (transpose_shape axes b.shape) (transpose_index axes) b))))
 
 -- ---- A↑B: the first a of each axis, or the last, padded at the far end
 
@@ -177,7 +179,7 @@ drop_from a b =
     (error_if error.Length (not (count a == length ns))
     (error_if error.Domain (is_text a)
     (within_limit (drop_shape ns a.cells) (λ _.
-    Ok (selected (drop_shape ns a.cells) (drop_index ns a.cells) (with_shape b ns))))))
+    Ok (gathered (drop_shape ns a.cells) (drop_index ns a.cells) (with_shape b ns))))))
 
 -- ---- A⍳B: for each element of B, o and the number of elements of A before its first place in A
 
@@ -228,7 +230,7 @@ extended_to n b = if is_extendable b then vector b.kind (replicate n (first b)) 
 abbrev pub compressed : ℕ → List ℤ → Array → Array
 compressed axis bits b =
     let places = ones_from 0 bits in
-    selected (slice_set b.shape axis (length places)) (λ is. slice_set is axis (slice_index places (slice_index is axis))) b
+    gathered (slice_set b.shape axis (length places)) (λ is. slice_set is axis (slice_index places (slice_index is axis))) b
 
 -- a single A extends to the axis
 abbrev pub bits_along : ℕ → Array → List ℤ
@@ -289,17 +291,13 @@ digit_rows bases columns i = map (λ ds. slice_index_or ds i (pos 0)) columns
 abbrev pub columns_of : Array → Array → Option (List (List ℤ))
 columns_of a b = all_defined (map (λ z. option_map (λ s. s.0) (digits a.cells z)) b.cells)
 
-abbrev pub flat : List (List ℤ) → List ℤ
-flat [] = []
-flat (row ∷ rows) = row ++ flat rows
-
 abbrev pub encode : Array → Array → Answer
 encode a b =
     let ns = a.shape ++ b.shape in
     error_if error.Rank (is_above_one a || is_above_one b)
     (within_limit ns (λ _.
     error_if error.Domain (is_text a || is_text b)
-    (or_domain (columns_of a b) (λ columns. record { kind = Num; shape = ns; cells = flat (map (digit_rows a.cells columns) (upward 0 (count a))) }))))
+    (or_domain (columns_of a b) (λ columns. record { kind = Num; shape = ns; cells = flat_map (digit_rows a.cells columns) (upward 0 (count a)) }))))
 
 -- ---- A⊥B: r begins at 0, and for each place becomes (r×a)+b
 

@@ -6,10 +6,11 @@ use Rattle.apl_base.specs.declared.cells.Elem.{Elem}
 use Rattle.apl_base.specs.declared.faults.ErrorKind.TheVariants as error
 use Rattle.apl_base.specs.declared.rows.Dya.{Dya}
 use Rattle.apl_base.specs.Array.{Array, cell_at}
+use Rattle.apl_base.specs.Elements.{element, numbers, all_defined, indices}
 use Rattle.apl_base.specs.Scalar.{scalar2, identity_of, number}
 use Rattle.apl_base.specs.Selection.{upward}
 use Rattle.apl_model.specs.declared.functions.Axis.{Axis}
-use Rattle.apl_model.specs.Whole.{Answer, rank, is_extendable, element, first, indices, numbers, error_if, within_limit, all_defined, or_domain}
+use Rattle.apl_model.specs.Whole.{Answer, rank, is_extendable, first, error_if, within_limit, or_domain}
 use Rattle.apl_model.specs.Made.{on_axis}
 
 -- ---- reduction

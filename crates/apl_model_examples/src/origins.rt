@@ -11,7 +11,8 @@ pub fn examples_of_origins()
         (script.places_count_from_the_origin
         ∷ script.the_length_is_no_position_from_0
         ∷ []) }
-    ensures places_count_from_the_origin { Runs script.places_count_from_the_origin "0 1 2\nAC\n1 2 0\n2 3\n2 4\n1 2 3\n" well [] }
+    ensures places_count_from_the_origin { Runs script.places_count_from_the_origin
+        "0 1 2\nAC\n1 2 0\n2 3\n2 4\n1 2 3\n" well [] }
     ensures the_length_is_no_position_from_0 { Runs script.the_length_is_no_position_from_0
         "INDEX ERROR\n      1 2 3[3]\n           ^\n" reported [] }
     // after the last command the origin is 1

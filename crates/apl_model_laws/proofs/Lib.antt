@@ -7,5 +7,5 @@ pub mod Kept
 pub mod Onwards
 pub mod Safe
 pub mod Scripts
-pub mod Transposes
+pub mod TestedAxes
 pub mod Values

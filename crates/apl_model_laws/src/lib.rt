@@ -7,7 +7,7 @@ mod printing;
 mod turns;
 
 pub use lawful::{
-    dyadic_values_are_lawful, expressions_are_lawful, functions_are_lawful,
+    axes_are_tested, dyadic_values_are_lawful, expressions_are_lawful, functions_are_lawful,
     inner_products_are_lawful, literals_are_lawful, monadic_values_are_lawful,
     outer_products_are_lawful, positions_are_lawful, reductions_are_lawful,
     replacements_are_lawful, runs_are_lawful, scripts_have_lawful_items, shapes_are_tested,

@@ -2,3 +2,4 @@ pub mod IntervalLemmas
 pub mod StoreLemmas
 pub mod FollowsLemmas
 pub mod CountingLemmas
+pub mod PlaceLemmas

@@ -132,6 +132,10 @@ owner_found s key held = found_or (owner_at s key) held
     found_or None h = absurd (omega (arith, h))
     found_or (Some o) h = refl
 
+-- and is lawful
+pub IsOwner-held : (s : StoreView) (key : ℕ) → IsStore s → 0 < holders_of s key → IsOwner (owner_of s key)
+IsOwner-held s key store held = store.owners key (owner_of s key) (owner_found s key held)
+
 -- what a look-up found is there in an equal store at an equal key
 pub owner_along : (s t : StoreView) (key other : ℕ) (o : OwnerView) → s ≡ t → key ≡ other → owner_at s key ≡ Some o → owner_at t other ≡ Some o
 owner_along s t key other o same equal found =

@@ -2,3 +2,4 @@ pub mod Stores
 pub mod Follows
 pub mod Laws
 pub mod Counting
+pub mod Places

@@ -5,6 +5,7 @@
 mod hulls;
 mod ids;
 mod laws;
+mod places;
 mod storage;
 #[cfg(test)]
 mod tests;

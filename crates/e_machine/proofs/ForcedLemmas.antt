@@ -16,7 +16,7 @@ use Rattle.array_store.specs.declared.ids.Counts.{Counts}
 use Rattle.array_store.specs.Stores.{StoreView, IsStore, counted, new_owner, Makes}
 use Rattle.array_store.specs.Counting.{OnlyCounted, RoseBy, OnlyComputed, Computed}
 use Rattle.array_store.proofs.StoreLemmas.{IsStore-counted}
-use Rattle.iter_stack.proofs.Walks.{length-upward, get_or-upward}
+use Rattle.apl_base.proofs.Upward.{length-upward, get_or-upward}
 use Rattle.drag_along.specs.declared.leaves.Leaf.{Leaf}
 use Rattle.drag_along.specs.declared.nodes.Node.{Node}
 use Rattle.drag_along.specs.declared.nodes.Node.TheVariants.{Operand, One, Two}

@@ -9,7 +9,7 @@ use Rattle.apl_base.specs.declared.cells.Kind.{Kind}
 use Rattle.apl_base.specs.Array.{Array, IsIndex, size_of, index_at}
 use Rattle.apl_base.specs.Selection.{upward}
 use Rattle.apl_base.proofs.Sizes.{IsIndex-index_at, place_at-below, place_at-index_at}
-use Rattle.iter_stack.proofs.Walks.{length-upward, get_or-upward}
+use Rattle.apl_base.proofs.Upward.{length-upward, get_or-upward}
 use Rattle.array_desc.specs.Desc.{DescView, IsWhole, number}
 use Rattle.array_store.specs.Stores.{OwnerView, StoreView, Makes, new_owner, owner_of, holders_of, cells_of, kind_of}
 use Rattle.array_store.specs.Follows.{Holds, one_of}
