@@ -1,15 +1,25 @@
 -- Positions that are a progression: which places they name, and the item that they are.
-use Rattle.std.proofs.Common.{◌≡◌, ℕ, zero, suc, ◌+◌, ◌-◌, ◌^◌, ◌<◌, ◌≤◌, ℤ, pos, negsuc, ◌+ℤ◌, ◌-ℤ◌, ◌*ℤ◌, ◌≤ℤ◌, ◌<ℤ◌, Bool, true, false, List, [], ◌∷◌, w64, FitsSigned, to_z, of_z, refl, sym, ap, subst, ◌∙◌, arith}
+use Rattle.std.proofs.Common.{◌≡◌, ℕ, zero, suc, ◌+◌, ◌-◌, ◌^◌, ◌<◌, ◌≤◌, ℤ, pos, negsuc, ◌+ℤ◌, ◌-ℤ◌, ◌*ℤ◌, ◌≤ℤ◌, ◌<ℤ◌, Bool, true, false, List, [], ◌∷◌, length, w64, FitsSigned, to_z, of_z, refl, sym, ap, subst, ◌∙◌, arith}
 use Rattle.std.specs.Prelude.{unsigned_abs}
 use Rattle.std.proofs.lemmas.Int.{ints, to_z-of_z}
 use Rattle.std.proofs.Math.Nat.{mul-le-mul_left}
 use mir.Syntax.{w128}
 use Rattle.apl_base.specs.Number.{IsNumber}
-use Rattle.array_desc.specs.Desc.{RunFits}
+use Rattle.apl_base.specs.declared.cells.Kind.TheVariants.{Num}
+use Rattle.apl_base.specs.Array.{IsIndex, size_of, index_at}
+use Rattle.apl_base.specs.Elements.{tabulated}
+use Rattle.apl_base.proofs.Sizes.{IsIndex-index_at}
+use Rattle.apl_base.proofs.Elements.{tabulated-count, tabulated-place}
+use Rattle.array_desc.specs.Desc.{DescView, IsDesc, RunFits}
+use Rattle.array_store.specs.Stores.{StoreView, IsStore}
+use Rattle.drag_along.specs.declared.leaves.Leaf.TheVariants.{Stored}
+use Rattle.drag_along.specs.Meaning.{leaf_cell, leaf_array}
+use Rattle.drag_along.specs.Lawful.{LiesIn}
+use Rattle.drag_along.proofs.LeafLemmas.{leaf_cells_lawful}
 use Rattle.beating.specs.declared.runs.Run.{Run}
 use Rattle.beating.specs.declared.selections.Item.{Item}
 use Rattle.beating.specs.declared.selections.Item.TheVariants as item
-use Rattle.beating.specs.Runs.{run_value}
+use Rattle.beating.specs.Runs.{run_value, IsRunOf}
 use Rattle.beating.proofs.RunLemmas.{number_is}
 use Rattle.beating.specs.Positions.{ArePositions, NamesPlace, OnAxis, LeavesAxis, IsItemOf}
 
@@ -168,3 +178,20 @@ vector_item r scalar o last n p q short many first end =
     item_run r scalar o (to_z w64 (of_z w64 (to_z w128 (of_z w128 r.step)))) n p many
     (ap (λ (z : ℤ). to_z w64 (of_z w64 z)) (step_read r scalar first.are) ∙ to_z-of_z w64 r.step (step_fits r scalar o n short first.are on))
     (first_place r scalar o n p first) on
+
+-- ---- progressions of numbers are positions
+
+pub are_positions : (ns : List ℕ) (cell : List ℕ → ℤ) (r : Run) → IsRunOf (tabulated Num ns cell).cells r → ((i : List ℕ) → IsIndex ns i → IsNumber (cell i)) → ArePositions r false
+are_positions ns cell r h numbers = record {
+  numbers = λ j below.
+      let many = tabulated-count Num ns cell in
+      let listed : j < length (tabulated Num ns cell).cells = omega (arith, below, h.count) in
+      let inside : j < size_of ns = omega (arith, listed, many) in
+      subst IsNumber (sym (tabulated-place Num ns cell j (pos 0) inside) ∙ h.each j listed) (numbers (index_at ns j) (IsIndex-index_at ns j inside));
+  step = λ few. h.step (omega (arith, few, h.count));
+  one = λ yes. absurd (cc);
+}
+
+pub cells_positions : (s : StoreView) (owner : ℕ) (d : DescView) (r : Run) → IsStore s → IsDesc d → LiesIn s owner d Num → IsRunOf (leaf_array s d.shape (Stored owner d Num)).cells r → ArePositions r false
+cells_positions s owner d r store lawful lies h =
+    are_positions d.shape (leaf_cell s (Stored owner d Num)) r h (λ i q. leaf_cells_lawful s (Stored owner d Num) i store lawful lies q)
