@@ -1,6 +1,6 @@
 -- Facts on whole arrays: values that are all defined, the indices of a shape, and arrays made index by index.
 use Rattle.std.proofs.Common.{◌≡◌, ℕ, zero, suc, ◌+◌, ◌*◌, ◌<◌, ◌≤◌, ℤ, pos, List, [], ◌∷◌, ◌++◌, length, map, get_or, Option, Some, None, IfSome, refl, sym, ap, subst, ◌∙◌, arith}
-use Rattle.std.proofs.lemmas.List.{map-append, length-map, ext_get_or}
+use Rattle.std.proofs.lemmas.List.{map-append, length-map}
 use Rattle.std.proofs.lemmas.Simd.{map-map}
 use Rattle.std.proofs.lemmas.Nat.{div-mul-add, mod-mul-add}
 use Rattle.std.specs.List.{AllByRecursion, flat_map}
@@ -10,7 +10,7 @@ use Rattle.apl_base.specs.Array.{Array, size_of, IsIndex, place_at, index_at, ce
 use Rattle.apl_base.specs.Elements.{element, elements, all_defined, indices, tabulated, gathered}
 use Rattle.apl_base.specs.Selection.{upward}
 use Rattle.apl_base.proofs.Sizes.{place_at-below, IsIndex-index_at, place_at-index_at, index_at-place_at}
-use Rattle.apl_base.proofs.Upward.{length-upward, get_or-upward, upward-append, length-map-upward, get_or-map-places, all-map-upward, map-upward-same}
+use Rattle.apl_base.proofs.Upward.{length-upward, get_or-upward, upward-append, length-map-upward, get_or-map-places, all-map-upward, map-upward-same, list_by_places}
 
 pub length-elements : (a : Array) → length (elements a) ≡ length a.cells
 length-elements a = length-map a.cells (element a.kind)
@@ -144,12 +144,8 @@ tabulated-same kind ns f g h =
 pub tabulated-back : (a : Array) → length a.cells ≡ size_of a.shape → tabulated a.kind a.shape (cell_at a) ≡ a
 tabulated-back a h =
     ap (λ (cells : List ℤ). let b : Array = record { kind = a.kind; shape = a.shape; cells = cells } in b)
-    (ext_get_or (pos 0) (tabulated a.kind a.shape (cell_at a)).cells a.cells (tabulated-count a.kind a.shape (cell_at a) ∙ sym h) at)
-  where
-    at : (p : ℕ) → p < length (tabulated a.kind a.shape (cell_at a)).cells → get_or (tabulated a.kind a.shape (cell_at a)).cells p (pos 0) ≡ get_or a.cells p (pos 0)
-    at p below =
-        let less : p < size_of a.shape = omega (arith, below, tabulated-count a.kind a.shape (cell_at a)) in
-        tabulated-place a.kind a.shape (cell_at a) p (pos 0) less ∙ ap (λ k. get_or a.cells k (pos 0)) (place_at-index_at a.shape p less)
+    (list_by_places (λ p. cell_at a (index_at a.shape p)) a.cells (size_of a.shape) (pos 0) h
+    (λ p below. ap (λ k. get_or a.cells k (pos 0)) (place_at-index_at a.shape p below)))
 
 -- at each index the element at the index that is read
 pub gathered-at : (ns : List ℕ) (read : List ℕ → List ℕ) (a : Array) (is : List ℕ) → IsIndex ns is → cell_at (gathered ns read a) is ≡ cell_at a (read is)

@@ -1,5 +1,6 @@
 -- What is so of each element of a list, as lists are made.
-use Rattle.std.proofs.Common.{ℕ, zero, suc, List, [], ◌∷◌, ◌++◌, map, set, replicate}
+use Rattle.std.proofs.Common.{◌≡◌, ℕ, zero, suc, ◌<◌, List, [], ◌∷◌, ◌++◌, length, map, get_or, set, replicate, arith}
+use Rattle.std.proofs.lemmas.Slice.Zip.{length-zip}
 use Rattle.std.specs.Prelude.{slice_index_or}
 use Rattle.std.specs.List.{AllByRecursion, zip}
 
@@ -33,10 +34,21 @@ all_at P [] i d h e = e
 all_at P (x ∷ xs) zero d h e = h.0
 all_at P (x ∷ xs) (suc i) d h e = all_at P xs i d h.1 e
 
+-- at a place of the list
+pub all_place : {X : Type 0} (P : X → Type 0) (xs : List X) (i : ℕ) (d : X) → AllByRecursion P xs → i < length xs → P (get_or xs i d)
+all_place P [] i d h below = absurd (omega arith)
+all_place P (x ∷ xs) zero d h below = h.0
+all_place P (x ∷ xs) (suc i) d h below = all_place P xs i d h.1 (omega arith)
+
 pub all_set : {X : Type 0} (P : X → Type 0) (xs : List X) (i : ℕ) (x : X) → AllByRecursion P xs → P x → AllByRecursion P (set xs i x)
 all_set P [] i x h e = tt
 all_set P (y ∷ xs) zero x h e = (e, h.1)
 all_set P (y ∷ xs) (suc i) x h e = (h.0, all_set P xs i x h.1 e)
+
+-- ---- pairs
+
+pub length-pairs : {X Y : Type 0} (xs : List X) (ys : List Y) (n : ℕ) → length xs ≡ n → length ys ≡ n → length (zip xs ys) ≡ n
+length-pairs xs ys n a b = omega (arith, length-zip xs ys, a, b)
 
 -- of pairs, by their halves
 pub zip-all : {X Y : Type 0} (P : X → Type 0) (Q : Y → Type 0) (xs : List X) (ys : List Y) → AllByRecursion P xs → AllByRecursion Q ys → AllByRecursion (λ (p : X × Y). P p.0 × Q p.1) (zip xs ys)

@@ -14,6 +14,10 @@ is_number-true z t =
     let high : int_le z M ≡ true = p.1 in
     record { least = omega (arith, ints); most = omega (arith, ints) }
 
+-- lengths, places and 0
+pub IsNumber-small : (n : ℕ) → n ≤ 2 ^ 64 → IsNumber (pos n)
+IsNumber-small n h = record { least = omega (arith, ints); most = omega (arith, ints) }
+
 -- by its magnitude
 pub IsNumber-magnitude : (z : ℤ) → unsigned_abs z ≤ 10 ^ 36 → IsNumber z
 IsNumber-magnitude (pos n) h = record { least = omega (arith, ints); most = omega (arith, ints) }

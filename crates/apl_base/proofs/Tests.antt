@@ -15,6 +15,11 @@ pub not-false : (b : Bool) → not b ≡ false → b ≡ true
 not-false true h = refl
 not-false false h = absurd cc
 
+-- a test of what does not hold is false
+pub by_false : (b : Bool) (P : Type 0) → (b ≡ true → P) → (P → ⊥) → b ≡ false
+by_false true P f g = absurd (g (f refl))
+by_false false P f g = refl
+
 -- a test of each element
 pub list_all-each : {X : Type 0} (p : X → Bool) (xs : List X) → list_all p xs ≡ true → AllByRecursion (λ x. p x ≡ true) xs
 list_all-each p [] h = tt

@@ -1,5 +1,6 @@
 -- The numbers from one on upwards, and what a function gives at them.
-use Rattle.std.proofs.Common.{◌≡◌, ℕ, zero, suc, ◌+◌, ◌<◌, ◌≤◌, List, [], ◌∷◌, ◌++◌, length, map, get_or, refl, ap, ◌∙◌, arith}
+use Rattle.std.proofs.Common.{◌≡◌, ℕ, zero, suc, ◌+◌, ◌<◌, ◌≤◌, List, [], ◌∷◌, ◌++◌, length, map, get_or, refl, sym, ap, ◌∙◌, arith}
+use Rattle.std.proofs.lemmas.List.{ext_get_or}
 use Rattle.std.specs.List.{AllByRecursion}
 use Rattle.apl_base.specs.Selection.{upward}
 
@@ -60,3 +61,10 @@ map-upward-same f g a (suc n) h =
     let here : f a ≡ g a = h a (omega arith) (omega arith) in
     let rest : map f (upward (suc a) n) ≡ map g (upward (suc a) n) = map-upward-same f g (suc a) n (λ p low high. h p (omega arith) (omega arith)) in
     cc
+
+-- a list is what it has at each place
+pub list_by_places : {X : Type 0} (f : ℕ → X) (xs : List X) (n : ℕ) (d : X) → length xs ≡ n → ((p : ℕ) → p < n → f p ≡ get_or xs p d) → map f (upward 0 n) ≡ xs
+list_by_places f xs n d count each =
+    ext_get_or d (map f (upward 0 n)) xs (length-map-upward f 0 n ∙ sym count) (λ p below.
+    let within : p < n = omega (arith, below, length-map-upward f 0 n) in
+    get_or-map-places f n p d within ∙ each p within)

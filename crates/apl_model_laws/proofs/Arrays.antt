@@ -15,6 +15,7 @@ use Rattle.apl_base.specs.Elements.{element, elements, numbers, tabulated, gathe
 use Rattle.apl_base.specs.Number.{IsNumber, IsCell}
 use Rattle.apl_base.proofs.Elements.{tabulated-count, tabulated-each}
 use Rattle.apl_base.proofs.Lists.{all_imp, all_map, all_at}
+use Rattle.apl_base.proofs.Numbers.{IsNumber-small}
 use Rattle.apl_base.proofs.Tests.{both_parts, not-false, list_all-each, each-list_all}
 use Rattle.scalar_table.specs.Row.{IsElement, IsNumberElement}
 use Rattle.apl_model.specs.Whole.{Answer, is_shape, error_if, error_or, within_limit, or_domain, first, vector, scalar, fill}
@@ -68,15 +69,12 @@ domain-gives (Some x) make h = record { answer = h x refl }
 
 -- ---- cells
 
-pub small_number : (n : ℕ) → n ≤ 2 ^ 40 + 1 → IsNumber (pos n)
-small_number n h = record { least = omega (arith, ints); most = omega (arith, ints) }
-
 pub zero_cell : (k : Kind) → IsCell k (pos 0)
-zero_cell Num = small_number 0 (omega arith)
+zero_cell Num = IsNumber-small 0 (omega arith)
 zero_cell Char = refl
 
 pub fill_cell : (k : Kind) → IsCell k (fill k)
-fill_cell Num = small_number 0 (omega arith)
+fill_cell Num = IsNumber-small 0 (omega arith)
 fill_cell Char = refl
 
 -- the cell at any list of numbers is lawful, within the array or not

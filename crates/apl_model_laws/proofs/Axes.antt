@@ -20,6 +20,7 @@ use Rattle.apl_base.specs.Selection.{upward, transpose_shape, transpose_index}
 use Rattle.apl_base.proofs.Elements.{all_defined-each}
 use Rattle.apl_base.proofs.Lists.{all_imp, all_map, all_append, all_replicate, all_at}
 use Rattle.apl_base.proofs.Sizes.{size_of-append}
+use Rattle.apl_base.proofs.Numbers.{IsNumber-small}
 use Rattle.apl_base.proofs.Tests.{both_parts, neither_part, not-false}
 use Rattle.apl_base.proofs.Transposes.{transposed_shape}
 use Rattle.apl_base.proofs.Upward.{length-upward}
@@ -27,7 +28,7 @@ use Rattle.scalar_table.specs.LawfulNumbers.{of_numbers-lawful}
 use Rattle.apl_model.specs.declared.functions.Axis.{Axis}
 use Rattle.apl_model.specs.Made.{is_above_one, are_bits, flipped, less_origin, are_axes, transposed, read_or_fill, ones_from, extended_to, bits_along, compress, ones, spaced, expand, carried, cons_digit, digits, digit_rows, columns_of, encode}
 use Rattle.apl_model.specs.Whole.{rank, count, is_single, is_text, is_extendable, first, vector}
-use Rattle.apl_model_laws.proofs.Arrays.{Gives, gives, error_if-gives, error_or-gives, within-gives, domain-gives, small_number, zero_cell, first-lawful, tabulated-array, gathered-array, one_axis}
+use Rattle.apl_model_laws.proofs.Arrays.{Gives, gives, error_if-gives, error_or-gives, within-gives, domain-gives, zero_cell, first-lawful, tabulated-array, gathered-array, one_axis}
 use Rattle.apl_model_laws.proofs.TestedAxes.{axes-are}
 use Rattle.apl_model_laws.proofs.Forms.{IsAxisOf, axis-gives, numbers-of, read-lawful}
 
@@ -157,7 +158,7 @@ expand-gives o axis a b h =
 -- ---- encodings
 
 int-zero : (t : Bool) (z : ℤ) → IsNumber z → IsNumber (if t then pos 0 else z)
-int-zero true z h = small_number 0 (omega arith)
+int-zero true z h = IsNumber-small 0 (omega arith)
 int-zero false z h = h
 
 quotient-number : (b : ℤ) (n : ℕ) → IsNumber b → IsNumber (int_div_euclid b (pos n))

@@ -21,6 +21,7 @@ use Rattle.apl_base.specs.Scalar.{is_same, is_same_kind, truth, in_range}
 use Rattle.apl_base.specs.Selection.{upward, reverse_index, drop_shape, drop_index}
 use Rattle.apl_base.proofs.Integers.{magnitude-below}
 use Rattle.apl_base.proofs.Lists.{all_imp, all_map, all_mapped, all_append, all_replicate, all_at}
+use Rattle.apl_base.proofs.Numbers.{IsNumber-small}
 use Rattle.apl_base.proofs.Tests.{both_parts, neither_part, not-false}
 use Rattle.apl_base.proofs.Upward.{length-upward, length-map-upward, all-upward}
 use Rattle.scalar_table.specs.LawfulNumbers.{truth-lawful, of_numbers-lawful}
@@ -29,7 +30,7 @@ use Rattle.apl_model.specs.declared.functions.Axis.TheVariants.{Last, First, Num
 use Rattle.apl_model.specs.Made.{is_above_one, are_counts, counted_from, on_axis, interval, shape_of, reshape, ravel, joined_kind, kinds_differ, catenate, reversed, turn, turned_index, rotated, taken_shape, taken_places, read_or_fill, with_shape, take_or_pad, drop_from, index_of, member, comes_first, place_in, in_order, grade, decoded, matched, decode}
 use Rattle.apl_model.specs.Whole.{Answer, rank, count, is_single, is_empty, is_text, is_char, first, vector}
 use Rattle.apl_model_laws.specs.Lawful.{IsOrigin}
-use Rattle.apl_model_laws.proofs.Arrays.{Gives, gives, error_if-gives, within-gives, domain-gives, small_number, zero_cell, fill_cell, cell_at-lawful, counted-number, tabulated-array, gathered-array, vector-array, scalar-array, count-small}
+use Rattle.apl_model_laws.proofs.Arrays.{Gives, gives, error_if-gives, within-gives, domain-gives, zero_cell, fill_cell, cell_at-lawful, counted-number, tabulated-array, gathered-array, vector-array, scalar-array, count-small}
 
 -- ---- tests
 
@@ -93,7 +94,7 @@ interval-gives o h b =
 
 pub shape-gives : (b : Array) → IsArray b → Gives (shape_of b)
 shape-gives b h = gives _ (vector-array Num (map pos b.shape) (omega (arith, length-map b.shape pos, h.shape.rank))
-    (all_map IsNumber pos b.shape (all_imp (λ n. n ≤ 2 ^ 40) (λ n. IsNumber (pos n)) b.shape (λ n p. small_number n (omega (arith, p))) h.shape.each)))
+    (all_map IsNumber pos b.shape (all_imp (λ n. n ≤ 2 ^ 40) (λ n. IsNumber (pos n)) b.shape (λ n p. IsNumber-small n (omega (arith, p))) h.shape.each)))
 
 pub reshape-gives : (a b : Array) → IsArray b → Gives (reshape a b)
 reshape-gives a b h =

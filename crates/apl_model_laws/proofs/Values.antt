@@ -5,7 +5,6 @@ use Rattle.std.specs.Cmp.Lexicographic.{pointwise}
 use Rattle.std.specs.List.{AllByRecursion, list_any, zip}
 use Rattle.std.specs.Option.{option_map, option_and_then}
 use Rattle.std.proofs.lemmas.List.{length-map, length-replicate, length-set}
-use Rattle.std.proofs.lemmas.Slice.Zip.{length-zip}
 use Rattle.std.proofs.lemmas.Bool.{eqb-true}
 use Rattle.std.proofs.lemmas.Bool.Decides.{nat_tests}
 use Rattle.std.proofs.lemmas.Int.{ints}
@@ -23,7 +22,8 @@ use Rattle.apl_base.specs.Number.{IsNumber, IsCell}
 use Rattle.apl_base.specs.Scalar.{scalar1, scalar2, is_same_kind, identity_of, number}
 use Rattle.apl_base.specs.Selection.{upward}
 use Rattle.apl_base.proofs.Elements.{length-indices, all_defined-each}
-use Rattle.apl_base.proofs.Lists.{all_imp, all_map, all_mapped, all_replicate, all_at, all_set, zip-all}
+use Rattle.apl_base.proofs.Lists.{all_imp, all_map, all_mapped, all_replicate, all_at, all_set, length-pairs, zip-all}
+use Rattle.apl_base.proofs.Numbers.{IsNumber-small}
 use Rattle.apl_base.proofs.Tests.{both_parts, neither_part}
 use Rattle.scalar_table.specs.Row.{IsElement, IsNumberElement}
 use Rattle.scalar_table.specs.LawfulElements.{scalar1-lawful, scalar2-lawful}
@@ -35,7 +35,7 @@ use Rattle.apl_model.specs.Product.{reduced, elem_at, line_at, reduced_along, re
 use Rattle.apl_model.specs.Subscript.{is_text_position, in_axes, positions_shape, positions_index, subscript, value_at, replaced, replacement}
 use Rattle.apl_model.specs.Whole.{rank, is_single, is_empty, is_extendable, first}
 use Rattle.apl_model_laws.specs.Lawful.{LiteralsAreLawful}
-use Rattle.apl_model_laws.proofs.Arrays.{Gives, gives, error_if-gives, within-gives, domain-gives, small_number, zero_cell, cell_at-lawful, first-lawful, gathered-array, numbers-array, elements-lawful, one_axis, no_axis}
+use Rattle.apl_model_laws.proofs.Arrays.{Gives, gives, error_if-gives, within-gives, domain-gives, zero_cell, cell_at-lawful, first-lawful, gathered-array, numbers-array, elements-lawful, one_axis, no_axis}
 use Rattle.apl_model_laws.proofs.Forms.{axis-gives, empty-cells}
 
 -- a value that a further step makes of a value
@@ -99,9 +99,6 @@ spread-lawful : (t : Bool) (n : ℕ) (a : Array) → IsArray a → AllByRecursio
 spread-lawful true n a h = all_replicate IsElement n (element a.kind (first a)) (first-lawful a h.cells)
 spread-lawful false n a h = elements-lawful a h
 
-pairs-length : {X Y : Type 0} (xs : List X) (ys : List Y) (n : ℕ) → length xs ≡ n → length ys ≡ n → length (zip xs ys) ≡ n
-pairs-length xs ys n a b = omega (arith, length-zip xs ys, a, b)
-
 pub lift2-gives : (f : Dya) (a b : Array) → IsArray a → IsArray b → Gives (lift2 f a b)
 lift2-gives f a b g h =
     by (fitting_shape a.shape b.shape) (fits_by (pointwise nat_eq a.shape b.shape) (is_single a) (is_single b) a.shape b.shape (same_lengths a.shape b.shape) g.shape h.shape)
@@ -113,7 +110,7 @@ lift2-gives f a b g h =
         let ys = spread_to (size_of ns) b in
         domain-gives (all_defined (map (λ p. scalar2 f p.0 p.1) (zip xs ys))) (numbers ns)
         (valued ns (λ (p : Elem × Elem). scalar2 f p.0 p.1) (zip xs ys) k.shape
-        (pairs-length xs ys (size_of ns) (spread-length (is_single a) (size_of ns) a g k.left) (spread-length (is_single b) (size_of ns) b h k.right))
+        (length-pairs xs ys (size_of ns) (spread-length (is_single a) (size_of ns) a g k.left) (spread-length (is_single b) (size_of ns) b h k.right))
         (all_imp (λ (p : Elem × Elem). IsElement p.0 × IsElement p.1) (λ p. IfSome (scalar2 f p.0 p.1) IsNumberElement) (zip xs ys)
         (λ p q. scalar2-lawful f p.0 p.1 q.0 q.1)
         (zip-all IsElement IsElement xs ys (spread-lawful (is_single a) (size_of ns) a g) (spread-lawful (is_single b) (size_of ns) b h))))
@@ -124,24 +121,24 @@ from_number : (e : Elem) → IsNumberElement e → IsElement e
 from_number e h = subst (λ k. IsCell k e.cell) (sym h.kind) h.cell
 
 identity-lawful : (f : Dya) → IfSome (option_map number (identity_of f)) IsNumberElement
-identity-lawful dya.Add = record { kind = refl; cell = small_number 0 (omega arith) }
-identity-lawful dya.Sub = record { kind = refl; cell = small_number 0 (omega arith) }
-identity-lawful dya.Mul = record { kind = refl; cell = small_number 1 (omega arith) }
-identity-lawful dya.Div = record { kind = refl; cell = small_number 1 (omega arith) }
-identity-lawful dya.Pow = record { kind = refl; cell = small_number 1 (omega arith) }
+identity-lawful dya.Add = record { kind = refl; cell = IsNumber-small 0 (omega arith) }
+identity-lawful dya.Sub = record { kind = refl; cell = IsNumber-small 0 (omega arith) }
+identity-lawful dya.Mul = record { kind = refl; cell = IsNumber-small 1 (omega arith) }
+identity-lawful dya.Div = record { kind = refl; cell = IsNumber-small 1 (omega arith) }
+identity-lawful dya.Pow = record { kind = refl; cell = IsNumber-small 1 (omega arith) }
 identity-lawful dya.Max = record { kind = refl; cell = record { least = omega (arith, ints); most = omega (arith, ints) } }
 identity-lawful dya.Min = record { kind = refl; cell = record { least = omega (arith, ints); most = omega (arith, ints) } }
-identity-lawful dya.Residue = record { kind = refl; cell = small_number 0 (omega arith) }
-identity-lawful dya.And = record { kind = refl; cell = small_number 1 (omega arith) }
-identity-lawful dya.Or = record { kind = refl; cell = small_number 0 (omega arith) }
+identity-lawful dya.Residue = record { kind = refl; cell = IsNumber-small 0 (omega arith) }
+identity-lawful dya.And = record { kind = refl; cell = IsNumber-small 1 (omega arith) }
+identity-lawful dya.Or = record { kind = refl; cell = IsNumber-small 0 (omega arith) }
 identity-lawful dya.Nand = tt
 identity-lawful dya.Nor = tt
-identity-lawful dya.Lt = record { kind = refl; cell = small_number 0 (omega arith) }
-identity-lawful dya.Le = record { kind = refl; cell = small_number 1 (omega arith) }
-identity-lawful dya.Eq = record { kind = refl; cell = small_number 1 (omega arith) }
-identity-lawful dya.Ge = record { kind = refl; cell = small_number 1 (omega arith) }
-identity-lawful dya.Gt = record { kind = refl; cell = small_number 0 (omega arith) }
-identity-lawful dya.Ne = record { kind = refl; cell = small_number 0 (omega arith) }
+identity-lawful dya.Lt = record { kind = refl; cell = IsNumber-small 0 (omega arith) }
+identity-lawful dya.Le = record { kind = refl; cell = IsNumber-small 1 (omega arith) }
+identity-lawful dya.Eq = record { kind = refl; cell = IsNumber-small 1 (omega arith) }
+identity-lawful dya.Ge = record { kind = refl; cell = IsNumber-small 1 (omega arith) }
+identity-lawful dya.Gt = record { kind = refl; cell = IsNumber-small 0 (omega arith) }
+identity-lawful dya.Ne = record { kind = refl; cell = IsNumber-small 0 (omega arith) }
 
 option-imp : {X : Type 0} (P Q : X → Type 0) (o : Option X) → ((x : X) → P x → Q x) → IfSome o P → IfSome o Q
 option-imp P Q None h a = tt
