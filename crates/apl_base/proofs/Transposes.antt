@@ -153,6 +153,7 @@ abbrev pub HoldsBelow : ℕ → List ℕ → Type 0
 HoldsBelow zero axes = Unit {0}
 HoldsBelow (suc k) axes = Contains axes k × HoldsBelow k axes
 
+-- then each is
 pub each_held : (k : ℕ) (axes : List ℕ) → HoldsBelow k axes → (r : ℕ) → r < k → Contains axes r
 each_held zero axes h r p = absurd (omega (arith, p))
 each_held (suc k) axes h r p = below_more (λ n. Contains axes n) k (each_held k axes h.1) h.0 r (omega (arith, p))

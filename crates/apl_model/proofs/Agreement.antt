@@ -240,27 +240,49 @@ runs_agree S T V W P Q state value statement M N meaning other h m routines func
     let others : CallsOf T W = calls_of N other (map (mapped_routine statement) routines) in
     steps-agree state value statement M N h (meaning calls) (other others) (m.agree calls others (calls-agree state value statement M N meaning other h m routines 256)) functions report_of steps ending s
 
--- ---- where only the statements differ
+-- ---- values that stay what they are
 
 pub option-same : {A : Type 0} (a : Option A) → option_map (λ x. x) a ≡ a
 option-same None = refl
 option-same (Some a) = refl
 
-flow-same : {S : Type 0} (o : Outcome S Flow) → mapped_flow (λ s. s) o ≡ o
-flow-same (done flow s) = refl
-flow-same (fails kind place s) = refl
-flow-same (spent s) = refl
+pub options-same : {A : Type 0} (ps : List (Option A)) → map (option_map (λ x. x)) ps ≡ ps
+options-same [] = refl
+options-same (p ∷ ps) = ap (λ q. q ∷ map (option_map (λ x. x)) ps) (option-same p) ∙ ap (λ qs. p ∷ qs) (options-same ps)
 
-result-same : {S V : Type 0} (o : Outcome S (Option V)) → mapped_outcome (λ s. s) (option_map (λ v. v)) o ≡ o
-result-same (done a s) = ap (λ x. done x s) (option-same a)
-result-same (fails kind place s) = refl
-result-same (spent s) = refl
+pub value-same : {S T A : Type 0} (state : S → T) (f : A → A) → ((a : A) → f a ≡ a) → (o : Outcome S A) → mapped_outcome state f o ≡ mapped_outcome state (λ a. a) o
+value-same state f h (done a s) = ap (λ x. done x (state s)) (h a)
+value-same state f h (fails kind place s) = refl
+value-same state f h (spent s) = refl
+
+outcome-same : {S A : Type 0} (o : Outcome S A) → mapped_outcome (λ s. s) (λ a. a) o ≡ o
+outcome-same (done a s) = refl
+outcome-same (fails kind place s) = refl
+outcome-same (spent s) = refl
+
+module _ {S T V : Type 0} (state : S → T) (calls : CallsOf S V) (others : CallsOf T V) where
+  -- the arguments of a call as they are, and taken over to themselves
+  arguments-same : (f : List ℕ) (place : Place) (left right : Option V) (t : T) → others f place (option_map (λ v. v) left) (option_map (λ v. v) right) t ≡ others f place left right t
+  arguments-same f place left right t =
+      ap (λ l. others f place l (option_map (λ v. v) right) t) (option-same left) ∙ ap (λ r. others f place left r t) (option-same right)
+
+  pub calls-kept : ((f : List ℕ) (place : Place) (left right : Option V) (s : S) → others f place left right (state s) ≡ mapped_outcome state (λ r. r) (calls f place left right s)) →
+      CallsAgree state (λ v. v) calls others
+  calls-kept h = record {
+    agree = λ f place left right s.
+        arguments-same f place left right (state s) ∙ h f place left right s ∙ sym (value-same state (option_map (λ v. v)) option-same (calls f place left right s));
+  }
+
+  pub call-kept : CallsAgree state (λ v. v) calls others →
+      (f : List ℕ) (place : Place) (left right : Option V) (s : S) → others f place left right (state s) ≡ mapped_outcome state (λ r. r) (calls f place left right s)
+  call-kept c f place left right s =
+      sym (arguments-same f place left right (state s)) ∙ c.agree f place left right s ∙ value-same state (option_map (λ v. v)) option-same (calls f place left right s)
+
+-- ---- where only the statements differ
 
 call-same : {S V : Type 0} (calls others : CallsOf S V) → CallsAgree (λ s. s) (λ v. v) calls others →
     (f : List ℕ) (place : Place) (left right : Option V) (s : S) → others f place left right s ≡ calls f place left right s
-call-same calls others c f place left right s =
-    ap (λ l. others f place l right s) (sym (option-same left)) ∙ ap (λ r. others f place (option_map (λ v. v) left) r s) (sym (option-same right))
-    ∙ c.agree f place left right s ∙ result-same (calls f place left right s)
+call-same calls others c f place left right s = call-kept (λ s. s) calls others c f place left right s ∙ outcome-same (calls f place left right s)
 
 calls-same : {S V : Type 0} (calls others : CallsOf S V) → CallsAgree (λ s. s) (λ v. v) calls others → others ≡ calls
 calls-same calls others c = λ i f place left right s. call-same calls others c f place left right s i
@@ -284,7 +306,7 @@ module _ {S V P Q : Type 0} (statement : P → Q) (meaning : CallsOf S V → P �
     (t : IsTranslation statement meaning other) where
   pub translation-agrees : MeaningsAgree (λ s. s) (λ v. v) statement meaning other
   translation-agrees = record {
-    agree = λ calls others c p s. ap (λ k. other k (statement p) s) (calls-same calls others c) ∙ t calls p s ∙ sym (flow-same (meaning calls p s));
+    agree = λ calls others c p s. ap (λ k. other k (statement p) s) (calls-same calls others c) ∙ t calls p s ∙ sym (outcome-same (meaning calls p s));
   }
 
 pub translated_functions_agree : (S V P Q : Type 0) → TranslatedFunctionsAgree S V P Q
@@ -302,7 +324,7 @@ lines-same : {P : Type 0} (body : List (RoutineLine P)) → map (mapped_line (λ
 lines-same [] = refl
 lines-same (l ∷ ls) = ap (λ rest. l ∷ rest) (lines-same ls)
 
-routines-same : {P : Type 0} (routines : List (Routine P)) → map (mapped_routine (λ p. p)) routines ≡ routines
+pub routines-same : {P : Type 0} (routines : List (Routine P)) → map (mapped_routine (λ p. p)) routines ≡ routines
 routines-same [] = refl
 routines-same (r ∷ rs) =
     ap (λ body. record { header = r.header; body = body } ∷ map (mapped_routine (λ p. p)) rs) (lines-same r.body) ∙ ap (λ rest. r ∷ rest) (routines-same rs)
