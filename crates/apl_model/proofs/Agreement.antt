@@ -1,10 +1,10 @@
 -- Two kinds of states, values and statements that agree: one induction over expressions and statements, and one over
 -- lines, calls and items.
-use Rattle.std.proofs.Common.{◌≡◌, ℕ, zero, suc, ℤ, pos, negsuc, List, [], ◌∷◌, map, slice_get, Option, Some, None, refl, ap, ◌∙◌}
+use Rattle.std.proofs.Common.{◌≡◌, ℕ, zero, suc, ℤ, pos, negsuc, List, [], ◌∷◌, map, slice_get, Option, Some, None, refl, sym, ap, ◌∙◌}
 use Rattle.std.specs.Option.{option_map}
 use Rattle.apl_base.specs.declared.faults.ErrorKind.{ErrorKind}
 use Rattle.apl_base.specs.declared.faults.Place.{Place}
-use Rattle.apl_model.specs.Agreement.{mapped_outcome, mapped_flow, CallsAgree, ValuesAgree, ExpressionsAgree, PositionsAgree, StatementsAgree, mapped_line, mapped_routine, mapped_step, mapped_run, StepsAgree, MeaningsAgree, FunctionsAgree, RunsAgree}
+use Rattle.apl_model.specs.Agreement.{mapped_outcome, mapped_flow, CallsAgree, ValuesAgree, ExpressionsAgree, PositionsAgree, StatementsAgree, mapped_line, mapped_routine, mapped_step, mapped_run, StepsAgree, MeaningsAgree, FunctionsAgree, RunsAgree, IsTranslation, TranslatedFunctionsAgree, TranslatedRunsAgree, RunsOverValuesAgree}
 use Rattle.apl_model.specs.Call.{Routine, RoutineLine, labels_of, Steps, entered, turn, on_turn, line_at, next_line, run_line, run_lines, run_routine, run_found, routine_of, call_within, calls_of}
 use Rattle.apl_model.specs.Environment.{is_same_name}
 use Rattle.apl_model.specs.Immediate.{Ending, reported, out_of_turns, Run, Step, statement_step, command_step, after_statement, run_steps}
@@ -239,3 +239,106 @@ runs_agree S T V W P Q state value statement M N meaning other h m routines func
     let calls : CallsOf S V = calls_of M meaning routines in
     let others : CallsOf T W = calls_of N other (map (mapped_routine statement) routines) in
     steps-agree state value statement M N h (meaning calls) (other others) (m.agree calls others (calls-agree state value statement M N meaning other h m routines 256)) functions report_of steps ending s
+
+-- ---- values that stay what they are
+
+pub option-same : {A : Type 0} (a : Option A) → option_map (λ x. x) a ≡ a
+option-same None = refl
+option-same (Some a) = refl
+
+pub options-same : {A : Type 0} (ps : List (Option A)) → map (option_map (λ x. x)) ps ≡ ps
+options-same [] = refl
+options-same (p ∷ ps) = ap (λ q. q ∷ map (option_map (λ x. x)) ps) (option-same p) ∙ ap (λ qs. p ∷ qs) (options-same ps)
+
+pub value-same : {S T A : Type 0} (state : S → T) (f : A → A) → ((a : A) → f a ≡ a) → (o : Outcome S A) → mapped_outcome state f o ≡ mapped_outcome state (λ a. a) o
+value-same state f h (done a s) = ap (λ x. done x (state s)) (h a)
+value-same state f h (fails kind place s) = refl
+value-same state f h (spent s) = refl
+
+outcome-same : {S A : Type 0} (o : Outcome S A) → mapped_outcome (λ s. s) (λ a. a) o ≡ o
+outcome-same (done a s) = refl
+outcome-same (fails kind place s) = refl
+outcome-same (spent s) = refl
+
+module _ {S T V : Type 0} (state : S → T) (calls : CallsOf S V) (others : CallsOf T V) where
+  -- the arguments of a call as they are, and taken over to themselves
+  arguments-same : (f : List ℕ) (place : Place) (left right : Option V) (t : T) → others f place (option_map (λ v. v) left) (option_map (λ v. v) right) t ≡ others f place left right t
+  arguments-same f place left right t =
+      ap (λ l. others f place l (option_map (λ v. v) right) t) (option-same left) ∙ ap (λ r. others f place left r t) (option-same right)
+
+  pub calls-kept : ((f : List ℕ) (place : Place) (left right : Option V) (s : S) → others f place left right (state s) ≡ mapped_outcome state (λ r. r) (calls f place left right s)) →
+      CallsAgree state (λ v. v) calls others
+  calls-kept h = record {
+    agree = λ f place left right s.
+        arguments-same f place left right (state s) ∙ h f place left right s ∙ sym (value-same state (option_map (λ v. v)) option-same (calls f place left right s));
+  }
+
+  pub call-kept : CallsAgree state (λ v. v) calls others →
+      (f : List ℕ) (place : Place) (left right : Option V) (s : S) → others f place left right (state s) ≡ mapped_outcome state (λ r. r) (calls f place left right s)
+  call-kept c f place left right s =
+      sym (arguments-same f place left right (state s)) ∙ c.agree f place left right s ∙ value-same state (option_map (λ v. v)) option-same (calls f place left right s)
+
+-- ---- where only the statements differ
+
+call-same : {S V : Type 0} (calls others : CallsOf S V) → CallsAgree (λ s. s) (λ v. v) calls others →
+    (f : List ℕ) (place : Place) (left right : Option V) (s : S) → others f place left right s ≡ calls f place left right s
+call-same calls others c f place left right s = call-kept (λ s. s) calls others c f place left right s ∙ outcome-same (calls f place left right s)
+
+calls-same : {S V : Type 0} (calls others : CallsOf S V) → CallsAgree (λ s. s) (λ v. v) calls others → others ≡ calls
+calls-same calls others c = λ i f place left right s. call-same calls others c f place left right s i
+
+steps-same : {S V : Type 0} (M : Steps S V) → StepsAgree (λ s. s) (λ v. v) M M
+steps-same M = record {
+  turns = λ s. refl;
+  begun = λ s. refl;
+  begin = λ left s. refl;
+  end = λ line number s. refl;
+  enter = λ header labels left right s.
+      ap (λ l. M.enter header labels l (option_map (λ v. v) right) s) (option-same left) ∙ ap (λ r. M.enter header labels left r s) (option-same right);
+  result = λ name s. sym (option-same (M.result name s));
+  leave = λ s. refl;
+  unwind = λ s. refl;
+  tell = λ text s. refl;
+  obey = λ functions c s. refl;
+}
+
+module _ {S V P Q : Type 0} (statement : P → Q) (meaning : CallsOf S V → P → S → Outcome S Flow) (other : CallsOf S V → Q → S → Outcome S Flow)
+    (t : IsTranslation statement meaning other) where
+  pub translation-agrees : MeaningsAgree (λ s. s) (λ v. v) statement meaning other
+  translation-agrees = record {
+    agree = λ calls others c p s. ap (λ k. other k (statement p) s) (calls-same calls others c) ∙ t calls p s ∙ sym (outcome-same (meaning calls p s));
+  }
+
+pub translated_functions_agree : (S V P Q : Type 0) → TranslatedFunctionsAgree S V P Q
+translated_functions_agree S V P Q statement M meaning other t routines n f place left right s =
+    call-same (call_within M meaning routines n) (call_within M other (map (mapped_routine statement) routines) n)
+    (functions_agree S S V V P Q (λ s. s) (λ v. v) statement M M meaning other (steps-same M) (translation-agrees statement meaning other t) routines n) f place left right s
+
+pub translated_runs_agree : (S V P Q : Type 0) → TranslatedRunsAgree S V P Q
+translated_runs_agree S V P Q statement M meaning other t routines functions report_of steps ending s =
+    runs_agree S S V V P Q (λ s. s) (λ v. v) statement M M meaning other (steps-same M) (translation-agrees statement meaning other t) routines functions report_of steps ending s
+
+-- ---- where only the values differ
+
+lines-same : {P : Type 0} (body : List (RoutineLine P)) → map (mapped_line (λ p. p)) body ≡ body
+lines-same [] = refl
+lines-same (l ∷ ls) = ap (λ rest. l ∷ rest) (lines-same ls)
+
+pub routines-same : {P : Type 0} (routines : List (Routine P)) → map (mapped_routine (λ p. p)) routines ≡ routines
+routines-same [] = refl
+routines-same (r ∷ rs) =
+    ap (λ body. record { header = r.header; body = body } ∷ map (mapped_routine (λ p. p)) rs) (lines-same r.body) ∙ ap (λ rest. r ∷ rest) (routines-same rs)
+
+items-same : {P : Type 0} (steps : List (Step P)) → map (mapped_step (λ p. p)) steps ≡ steps
+items-same [] = refl
+items-same (statement_step line p ∷ steps) = ap (λ rest. statement_step line p ∷ rest) (items-same steps)
+items-same (command_step c ∷ steps) = ap (λ rest. command_step c ∷ rest) (items-same steps)
+
+pub runs_over_values_agree : (S T V W : Type 0) → RunsOverValuesAgree S T V W
+runs_over_values_agree S T V W state value M N values others h v routines functions report_of steps ending s =
+    let meaning : CallsOf S V → Statement → S → Outcome S Flow = λ calls. flow_in (values calls) in
+    let other : CallsOf T W → Statement → T → Outcome T Flow = λ calls. flow_in (others calls) in
+    let m : MeaningsAgree state value (λ (p : Statement). p) meaning other = record { agree = λ calls k c p s. statements_agree S T V W state value (values calls) (others k) (v calls k c) p s } in
+    ap (λ rs. run_steps N (other (calls_of N other rs)) functions report_of steps ending (state s)) (sym (routines-same routines))
+    ∙ ap (λ items. run_steps N (other (calls_of N other (map (mapped_routine (λ p. p)) routines))) functions report_of items ending (state s)) (sym (items-same steps))
+    ∙ runs_agree S T V W Statement Statement state value (λ p. p) M N meaning other h m routines functions report_of steps ending s

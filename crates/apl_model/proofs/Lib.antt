@@ -14,3 +14,4 @@ pub mod DepthRow
 pub mod ClassRow
 pub mod AcceptedItems
 pub mod Mapped
+pub mod Every

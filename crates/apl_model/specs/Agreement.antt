@@ -125,3 +125,34 @@ RunsAgree S T V W P Q = (state : S → T) (value : V → W) (statement : P → Q
     (routines : List (Routine P)) (functions : List (List ℕ)) (report_of : ErrorKind → Place → List ℕ) (steps : List (Step P)) (ending : Ending) (s : S) →
     run_steps N (other (calls_of N other (map (mapped_routine statement) routines))) functions report_of (map (mapped_step statement) steps) ending (state s)
     ≡ mapped_run state (run_steps M (meaning (calls_of M meaning routines)) functions report_of steps ending s)
+
+-- ---- where only the statements differ, as trees and their codes
+
+-- statements and their translations mean the same
+abbrev pub IsTranslation : {S V P Q : Type 0} → (P → Q) → (CallsOf S V → P → S → Outcome S Flow) → (CallsOf S V → Q → S → Outcome S Flow) → Type 0
+IsTranslation {S} {V} {P} statement meaning other = (calls : CallsOf S V) (p : P) (s : S) → other calls (statement p) s ≡ meaning calls p s
+
+-- then the calls of functions do
+abbrev pub TranslatedFunctionsAgree : (S V P Q : Type 0) → Type 0
+TranslatedFunctionsAgree S V P Q = (statement : P → Q) (M : Steps S V) (meaning : CallsOf S V → P → S → Outcome S Flow) (other : CallsOf S V → Q → S → Outcome S Flow) →
+    IsTranslation statement meaning other → (routines : List (Routine P)) (n : ℕ) (f : List ℕ) (place : Place) (left right : Option V) (s : S) →
+    call_within M other (map (mapped_routine statement) routines) n f place left right s ≡ call_within M meaning routines n f place left right s
+
+-- and so do runs
+abbrev pub TranslatedRunsAgree : (S V P Q : Type 0) → Type 0
+TranslatedRunsAgree S V P Q = (statement : P → Q) (M : Steps S V) (meaning : CallsOf S V → P → S → Outcome S Flow) (other : CallsOf S V → Q → S → Outcome S Flow) →
+    IsTranslation statement meaning other →
+    (routines : List (Routine P)) (functions : List (List ℕ)) (report_of : ErrorKind → Place → List ℕ) (steps : List (Step P)) (ending : Ending) (s : S) →
+    run_steps M (other (calls_of M other (map (mapped_routine statement) routines))) functions report_of (map (mapped_step statement) steps) ending s
+    ≡ run_steps M (meaning (calls_of M meaning routines)) functions report_of steps ending s
+
+-- ---- where only the values and the states differ, as arrays with their ranges and arrays alone
+
+-- runs of the same trees agree where what is done with values agrees
+abbrev pub RunsOverValuesAgree : (S T V W : Type 0) → Type 0
+RunsOverValuesAgree S T V W = (state : S → T) (value : V → W) (M : Steps S V) (N : Steps T W) (values : CallsOf S V → Values S V) (others : CallsOf T W → Values T W) →
+    StepsAgree state value M N →
+    ((calls : CallsOf S V) (other : CallsOf T W) → CallsAgree state value calls other → ValuesAgree state value (values calls) (others other)) →
+    (routines : List (Routine Statement)) (functions : List (List ℕ)) (report_of : ErrorKind → Place → List ℕ) (steps : List (Step Statement)) (ending : Ending) (s : S) →
+    run_steps N (flow_in (others (calls_of N (λ calls. flow_in (others calls)) routines))) functions report_of steps ending (state s)
+    ≡ mapped_run state (run_steps M (flow_in (values (calls_of M (λ calls. flow_in (values calls)) routines))) functions report_of steps ending s)

@@ -13,7 +13,9 @@ mod texts;
 mod tokens;
 mod trees;
 
-pub use agreements::{evaluations_agree, runs_agree};
+pub use agreements::{
+    evaluations_agree, runs_agree, runs_over_values_agree, translated_runs_agree,
+};
 pub use environments::{frames_are_mapped, variables_are_mapped};
 pub use examples::{
     refusals_of_bytes_and_characters, refusals_of_definitions, refusals_of_lines,

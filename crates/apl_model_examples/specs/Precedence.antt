@@ -91,7 +91,8 @@ a_domain_error_comes_before_an_index_error = script ("A←1 2 3"
 abbrev pub where_a_limit_error_comes_before_a_domain_error : Script
 where_a_limit_error_comes_before_a_domain_error = script ("(1048577⍴'A')⊤1048577⍴1"
     ∷ "⍲/1048577 1048577 0⍴1" ∷ "(2 2 2 2⍴'A')∘.+2 2 2 2 2⍴1" ∷ "(2 2 2 2 2⍴'A')+.+(6⍴2)⍴1"
-    ∷ "(1 2⍴5)[1 1 1 1 1⍴2;1 1 1 1⍴1]" ∷ "(1 2⍴5)[1 1 1 1 1⍴1;1 1 1 1⍴1]" ∷ [])
+    ∷ "(1 2⍴5)[(5⍴1)⍴2;(4⍴1)⍴1]" ∷ "(1 2⍴5)[(5⍴1)⍴1;(4⍴1)⍴1]" ∷ "(1099511627776⍴1),1" ∷ "1099511627777↑5"
+    ∷ "1 1 0\\[1]2 549755813888⍴1" ∷ [])
     (statement_item 1 (expression
     (dyadic two.Encode
     (parenthesis (dyadic two.Reshape (number 1048577 (at 1 2)) (text "A" (at 1 10)) (at 1 9)) (at 1 1))
@@ -113,11 +114,38 @@ where_a_limit_error_comes_before_a_domain_error = script ("(1048577⍴'A')⊤104
     ∷ statement_item 5 (expression
     (subscript
     (parenthesis (dyadic two.Reshape (numbers (1 ∷ 2 ∷ []) (at 5 2)) (number 5 (at 5 6)) (at 5 5)) (at 5 1))
-    (positions (given (dyadic two.Reshape (numbers (1 ∷ 1 ∷ 1 ∷ 1 ∷ 1 ∷ []) (at 5 9)) (number 2 (at 5 19)) (at 5 18)) ∷ given (dyadic two.Reshape (numbers (1 ∷ 1 ∷ 1 ∷ 1 ∷ []) (at 5 21)) (number 1 (at 5 29)) (at 5 28)) ∷ [])) (at 5 8)))
+    (positions
+    (given
+    (dyadic two.Reshape
+    (parenthesis (dyadic two.Reshape (number 5 (at 5 10)) (number 1 (at 5 12)) (at 5 11)) (at 5 9))
+    (number 2 (at 5 15)) (at 5 14))
+    ∷ given
+    (dyadic two.Reshape
+    (parenthesis (dyadic two.Reshape (number 4 (at 5 18)) (number 1 (at 5 20)) (at 5 19)) (at 5 17))
+    (number 1 (at 5 23)) (at 5 22))
+    ∷ [])) (at 5 8)))
     ∷ statement_item 6 (expression
     (subscript
     (parenthesis (dyadic two.Reshape (numbers (1 ∷ 2 ∷ []) (at 6 2)) (number 5 (at 6 6)) (at 6 5)) (at 6 1))
-    (positions (given (dyadic two.Reshape (numbers (1 ∷ 1 ∷ 1 ∷ 1 ∷ 1 ∷ []) (at 6 9)) (number 1 (at 6 19)) (at 6 18)) ∷ given (dyadic two.Reshape (numbers (1 ∷ 1 ∷ 1 ∷ 1 ∷ []) (at 6 21)) (number 1 (at 6 29)) (at 6 28)) ∷ [])) (at 6 8)))
+    (positions
+    (given
+    (dyadic two.Reshape
+    (parenthesis (dyadic two.Reshape (number 5 (at 6 10)) (number 1 (at 6 12)) (at 6 11)) (at 6 9))
+    (number 1 (at 6 15)) (at 6 14))
+    ∷ given
+    (dyadic two.Reshape
+    (parenthesis (dyadic two.Reshape (number 4 (at 6 18)) (number 1 (at 6 20)) (at 6 19)) (at 6 17))
+    (number 1 (at 6 23)) (at 6 22))
+    ∷ [])) (at 6 8)))
+    ∷ statement_item 7 (expression
+    (dyadic two.Catenate
+    (parenthesis (dyadic two.Reshape (number 1099511627776 (at 7 2)) (number 1 (at 7 16)) (at 7 15)) (at 7 1))
+    (number 1 (at 7 19)) (at 7 18)))
+    ∷ statement_item 8 (expression (dyadic two.Take (number 1099511627777 (at 8 1)) (number 5 (at 8 15)) (at 8 14)))
+    ∷ statement_item 9 (expression
+    (dyadic (two.Expand (axis.Numbered (pos 1)))
+    (numbers (1 ∷ 1 ∷ 0 ∷ []) (at 9 1))
+    (dyadic two.Reshape (numbers (2 ∷ 549755813888 ∷ []) (at 9 10)) (number 1 (at 9 25)) (at 9 24)) (at 9 6)))
     ∷ [])
 
 -- an interval has one number, a shape no characters; eight axes are the most, and 2^40 elements

@@ -21,16 +21,21 @@ pub fn examples_of_made()
         ∷ script.bits_along_an_axis
         ∷ script.the_number_of_digits_in_one_base
         ∷ []) }
-    ensures taking_pads_and_dropping_stops { Runs script.taking_pads_and_dropping_stops "0 0 1 2 3\n\n" well [] }
+    ensures taking_pads_and_dropping_stops { Runs script.taking_pads_and_dropping_stops
+        "0 0 1 2 3\n\n" well [] }
     ensures digits_and_their_value { Runs script.digits_and_their_value "1 2 3\n3723\n" well [] }
     ensures eight_functions_of_vectors { Runs script.eight_functions_of_vectors
         "5 0 7\n3 4\n2 3 1\n1 3 2\n0 1\n2 3 1\n1 2 3\n1 2 3 4\n" well [] }
-    ensures a_negative_length { Runs script.a_negative_length "DOMAIN ERROR\n      ¯1⍴2\n        ^\n" reported [] }
-    ensures nothing_has_no_two_elements { Runs script.nothing_has_no_two_elements "LENGTH ERROR\n      2⍴⍳0\n       ^\n" reported [] }
-    ensures a_second_spelling_of_membership { Runs script.a_second_spelling_of_membership "0 1\n" well [] }
+    ensures a_negative_length { Runs script.a_negative_length
+        "DOMAIN ERROR\n      ¯1⍴2\n        ^\n" reported [] }
+    ensures nothing_has_no_two_elements { Runs script.nothing_has_no_two_elements
+        "LENGTH ERROR\n      2⍴⍳0\n       ^\n" reported [] }
+    ensures a_second_spelling_of_membership { Runs script.a_second_spelling_of_membership
+        "0 1\n" well [] }
     ensures more_than_the_greatest_length { Runs script.more_than_the_greatest_length
         "LIMIT ERROR\n      ⍳1099511627777\n      ^\n" reported [] }
-    ensures a_base_of_0_takes_all_that_is_left { RunsThrough script.a_base_of_0_takes_all_that_is_left
+    ensures a_base_of_0_takes_all_that_is_left { RunsThrough
+        script.a_base_of_0_takes_all_that_is_left
         ("0 3 2" ∷ "1 0" ∷ "2 0" ∷ "3 7" ∷ "9 9" ∷ "2 1" ∷ [])
         well [] (one_by_one 4) }
     ensures equal_elements_keep_their_order { RunsThrough script.equal_elements_keep_their_order

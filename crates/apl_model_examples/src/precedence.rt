@@ -16,7 +16,8 @@ pub fn examples_of_precedence()
         ∷ script.what_a_selection_and_a_grade_refuse
         ∷ script.what_bits_and_digits_refuse
         ∷ []) }
-    ensures a_length_error_comes_before_a_domain_error { RunsThrough script.a_length_error_comes_before_a_domain_error
+    ensures a_length_error_comes_before_a_domain_error { RunsThrough
+        script.a_length_error_comes_before_a_domain_error
         ("LENGTH ERROR" ∷ "      1 2/1 2 3" ∷ "         ^"
         ∷ "DOMAIN ERROR" ∷ "      1 2\\1 2 3" ∷ "         ^"
         ∷ "LENGTH ERROR" ∷ "      1 1\\1 2 3" ∷ "         ^"
@@ -38,7 +39,8 @@ pub fn examples_of_precedence()
         ∷ "RANK ERROR" ∷ "      ⌽[3]2 2⍴1" ∷ "      ^"
         ∷ [])
         reported [] (one_by_one 7) }
-    ensures a_domain_error_comes_before_an_index_error { RunsThrough script.a_domain_error_comes_before_an_index_error
+    ensures a_domain_error_comes_before_an_index_error { RunsThrough
+        script.a_domain_error_comes_before_an_index_error
         ("DOMAIN ERROR" ∷ "      A[4]←'X'" ∷ "       ^"
         ∷ "LENGTH ERROR" ∷ "      A[4 5]←1 2 3" ∷ "       ^"
         ∷ "LENGTH ERROR" ∷ "      A[1 2]←'XYZ'" ∷ "       ^"
@@ -49,16 +51,21 @@ pub fn examples_of_precedence()
         ∷ "RANK ERROR" ∷ "      A['B';1]" ∷ "       ^"
         ∷ [])
         reported (is_set "A" (number_vector (1 ∷ 2 ∷ 3 ∷ [])) ∷ []) (one_by_one 9) }
-    ensures where_a_limit_error_comes_before_a_domain_error { RunsThrough script.where_a_limit_error_comes_before_a_domain_error
+    ensures where_a_limit_error_comes_before_a_domain_error { RunsThrough
+        script.where_a_limit_error_comes_before_a_domain_error
         ("LIMIT ERROR" ∷ "      (1048577⍴'A')⊤1048577⍴1" ∷ "                   ^"
         ∷ "LIMIT ERROR" ∷ "      ⍲/1048577 1048577 0⍴1" ∷ "       ^"
         ∷ "LIMIT ERROR" ∷ "      (2 2 2 2⍴'A')∘.+2 2 2 2 2⍴1" ∷ "                   ^"
         ∷ "LIMIT ERROR" ∷ "      (2 2 2 2 2⍴'A')+.+(6⍴2)⍴1" ∷ "                      ^"
-        ∷ "INDEX ERROR" ∷ "      (1 2⍴5)[1 1 1 1 1⍴2;1 1 1 1⍴1]" ∷ "             ^"
-        ∷ "LIMIT ERROR" ∷ "      (1 2⍴5)[1 1 1 1 1⍴1;1 1 1 1⍴1]" ∷ "             ^"
+        ∷ "INDEX ERROR" ∷ "      (1 2⍴5)[(5⍴1)⍴2;(4⍴1)⍴1]" ∷ "             ^"
+        ∷ "LIMIT ERROR" ∷ "      (1 2⍴5)[(5⍴1)⍴1;(4⍴1)⍴1]" ∷ "             ^"
+        ∷ "LIMIT ERROR" ∷ "      (1099511627776⍴1),1" ∷ "                       ^"
+        ∷ "LIMIT ERROR" ∷ "      1099511627777↑5" ∷ "                   ^"
+        ∷ "LIMIT ERROR" ∷ "      1 1 0\\[1]2 549755813888⍴1" ∷ "           ^"
         ∷ [])
-        reported [] (one_by_one 6) }
-    ensures what_an_interval_and_a_shape_refuse { RunsThrough script.what_an_interval_and_a_shape_refuse
+        reported [] (one_by_one 9) }
+    ensures what_an_interval_and_a_shape_refuse { RunsThrough
+        script.what_an_interval_and_a_shape_refuse
         ("RANK ERROR" ∷ "      ⍳1 1⍴3" ∷ "      ^"
         ∷ "LENGTH ERROR" ∷ "      ⍳'AB'" ∷ "      ^"
         ∷ "DOMAIN ERROR" ∷ "      ⍳'A'" ∷ "      ^"
@@ -70,7 +77,8 @@ pub fn examples_of_precedence()
         ∷ "DOMAIN ERROR" ∷ "      'A',1" ∷ "         ^"
         ∷ [])
         reported [] (one_by_one 10) }
-    ensures what_a_selection_and_a_grade_refuse { RunsThrough script.what_a_selection_and_a_grade_refuse
+    ensures what_a_selection_and_a_grade_refuse { RunsThrough
+        script.what_a_selection_and_a_grade_refuse
         ("RANK ERROR" ∷ "      1 2⌽1 2 3" ∷ "         ^"
         ∷ "LENGTH ERROR" ∷ "      1 2 3⌽2 3⍴1" ∷ "           ^"
         ∷ "DOMAIN ERROR" ∷ "      'A'⌽1 2" ∷ "         ^"

@@ -33,7 +33,8 @@ pub fn examples_of_subscripts()
     ensures one_element_is_a_value_of_its_own { Runs script.one_element_is_a_value_of_its_own
         "6\n"
         well (is_set "A" (number_vector (5 ∷ 9 ∷ 7 ∷ [])) ∷ is_set "B" (number_scalar 6) ∷ []) }
-    ensures a_write_to_an_unset_name { Runs script.a_write_to_an_unset_name "VALUE ERROR\n      Q[1]←2\n       ^\n" reported [] }
+    ensures a_write_to_an_unset_name { Runs script.a_write_to_an_unset_name
+        "VALUE ERROR\n      Q[1]←2\n       ^\n" reported [] }
     ensures positions_of_two_axes { RunsThrough script.positions_of_two_axes
         ("1 2" ∷ "3 4" ∷ "6 4" ∷ "3 1" ∷ "6 8" ∷ "5 9" ∷ [])
         well (is_set "A" (number_table 2 2 (6 ∷ 8 ∷ 5 ∷ 9 ∷ [])) ∷ []) (one_by_one 8) }

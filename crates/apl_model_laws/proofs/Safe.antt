@@ -28,7 +28,8 @@ use Rattle.apl_model.specs.Tree as tree
 use Rattle.apl_model.specs.Tree.{Tree, Slot, Positions, Statement, Script, Item, Definition, statement_item, command_item, definition_item, constant, variable, call, parenthesis, monadic, dyadic, reduction, outer_product, inner_product, assignment, indexed_assignment, output, elided, given, no_position, position, nothing, branch, expression}
 use Rattle.apl_model.specs.Whole.{Answer, is_empty, is_text, scalar}
 use Rattle.apl_model_laws.specs.Lawful.{IsOrigin, IsOptional, AreBindings, IsEnvironment, IsOutcome, CallsAreLawful, ExpressionsAreLawful, PositionsAreLawful, StatementsAreLawful, IsRoutine, FunctionsAreLawful, IsLawfulItem, RunsAreLawful, MonadicValuesAreLawful, DyadicValuesAreLawful, ReductionsAreLawful, OuterProductsAreLawful, InnerProductsAreLawful, SubscriptsAreLawful, ReplacementsAreLawful}
-use Rattle.apl_model_laws.proofs.Arrays.{all_append, scalar-array, Gives}
+use Rattle.apl_base.proofs.Lists.{all_append}
+use Rattle.apl_model_laws.proofs.Arrays.{scalar-array, Gives}
 use Rattle.apl_model_laws.proofs.Axes.{flipped-gives, transposed-gives, compress-gives, expand-gives, encode-gives}
 use Rattle.apl_model_laws.proofs.Forms.{interval-gives, shape-gives, reshape-gives, ravel-gives, catenate-gives, reversed-gives, rotated-gives, take-gives, drop-gives, index_of-gives, member-gives, grade-gives, decode-gives}
 use Rattle.apl_model_laws.proofs.Values.{lift1-gives, lift2-gives, reduce-gives, outer-gives, inner-gives, subscript-gives, replacement-gives, literals_are_lawful}

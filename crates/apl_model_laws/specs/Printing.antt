@@ -2,9 +2,10 @@
 use Rattle.std.specs.Prelude.{◌≡◌, ℕ, List, ◌++◌, Option, encode_utf8_all}
 use Rattle.apl_base.specs.declared.faults.Place.{Place}
 use Rattle.apl_base.specs.Array.{Array}
+use Rattle.apl_model.specs.Agreement.{mapped_outcome}
 use Rattle.apl_model.specs.Call.{Routine, call_within}
 use Rattle.apl_model.specs.Evaluation.{State, Calls, value_of, positions_of, statement_flow}
-use Rattle.apl_model.specs.Outcome.{Outcome, done, fails, spent}
+use Rattle.apl_model.specs.Outcome.{Outcome}
 use Rattle.apl_model.specs.Immediate.{of_states, run_items}
 use Rattle.apl_model.specs.Tree.{Tree, Positions, Statement, Script, Item}
 use Rattle.apl_model_laws.specs.Turns.{state_of}
@@ -16,9 +17,7 @@ abbrev pub onto : List ℕ → State → State
 onto text s = record s { printed = text ++ s.printed }
 
 abbrev pub outcome_onto : {A : Type 0} → List ℕ → Outcome State A → Outcome State A
-outcome_onto text (done a s) = done a (onto text s)
-outcome_onto text (fails kind place s) = fails kind place (onto text s)
-outcome_onto text (spent s) = spent (onto text s)
+outcome_onto text o = mapped_outcome (onto text) (λ a. a) o
 
 -- a part of a run does the same whatever was printed before, and prints behind it
 abbrev pub PrintsBehind : {A : Type 0} → (State → Outcome State A) → Type 0
