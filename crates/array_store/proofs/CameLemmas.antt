@@ -1,12 +1,11 @@
 -- Which owners came, and what the live cells are charged to.
-use Rattle.std.proofs.Common.{◌≡◌, ◌≢◌, ℕ, zero, suc, ◌+◌, ◌<◌, ◌≤◌, ℤ, List, [], ◌∷◌, ◌++◌, length, get_or, set, Option, Some, None, unwrap_or, refl, sym, ap, ◌∙◌, subst, inl, inr, arith, All, Contains, sum_by, length-set}
+use Rattle.std.proofs.Common.{◌≡◌, ◌≢◌, ℕ, suc, ◌+◌, ◌<◌, ◌≤◌, ℤ, List, [], ◌∷◌, ◌++◌, length, get_or, set, Option, Some, None, unwrap_or, refl, sym, ap, ◌∙◌, subst, inl, inr, arith, sum_by, length-set}
 use Rattle.std.specs.Prelude.{sum, ◌⊎◌}
 use Rattle.std.specs.Option.{option_map}
 use Rattle.std.proofs.lemmas.Bool.{cases_eq, cases_lt}
-use Rattle.std.proofs.lemmas.List.{get_or-set_same, get_or-set_other, get_or_past}
+use Rattle.std.proofs.lemmas.List.{get_or-set_other, get_or_past}
 use Rattle.std.proofs.lemmas.List.Sums.{sum_by-cons, sum_by-set}
 use Rattle.std.proofs.lemmas.List.Elements.{Contains-append_left, Contains-append_right}
-use Rattle.array_store.specs.declared.ids.Counts.{Counts}
 use Rattle.array_store.specs.Stores.{OwnerView, OwnerData, StoreView, IsStore, Makes, owner_at, owner_of, holders_of, cells_of, data_at, cells_in, no_owner, owner_data, with_owner, with_holders, with_cell, without_owner}
 use Rattle.array_store.specs.Counting.{OnlyCounted}
 use Rattle.array_store.specs.Came.{Came, IsAmong, Renews, IsCharged}
@@ -29,9 +28,9 @@ renews_then a b c came more p q =
     record {
       each = λ key live. elim (q.each key live) [
         | inl stayed ↦ elim (p.each key stayed.0) [
-            | inl old ↦ inl (old.0, stayed.1 ∙ old.1)
-            | inr among ↦ inr (among_left b c key came more stayed.1 among)
-          ]
+          | inl old ↦ inl (old.0, stayed.1 ∙ old.1)
+          | inr among ↦ inr (among_left b c key came more stayed.1 among)
+        ]
         | inr among ↦ inr (among_right c key came more among)
       ];
     }
@@ -97,25 +96,25 @@ many xs k = cells_in (get_or xs k None)
 pub sum_charged : (xs : List (Option OwnerView)) (sizes : List ℕ) (charge : ℕ → ℕ) → ((k : ℕ) → many xs k ≤ get_or sizes (charge k) 0) → ((k l : ℕ) → 0 < many xs k → 0 < many xs l → charge k ≡ charge l → k ≡ l) → sum_by cells_in xs ≤ sum sizes
 sum_charged [] sizes charge room apart = omega arith
 sum_charged (x ∷ xs) sizes charge room apart = elim (cases_lt 0 (cells_in x)) [
-    | inl some ↦
-        let c = charge 0 in
-        let fits : cells_in x ≤ get_or sizes c 0 = room 0 in
-        let within : c < length sizes = grind (arith, get_or_past) in
-        let less : sum (set sizes c 0) + get_or sizes c 0 ≡ sum sizes = omega (arith, sum_by-set (λ n. n) sizes c 0 0 within) in
-        let rest : sum_by cells_in xs ≤ sum (set sizes c 0) = sum_charged xs (set sizes c 0) (λ k. charge (suc k))
-        (λ k. elim (cases_lt 0 (many xs k)) [
-          | inl here ↦
-              let differs : charge (suc k) ≢ c = λ same. let e : suc k ≡ 0 = apart (suc k) 0 here some same in absurd (omega (arith, e)) in
-              subst (λ n. many xs k ≤ n) (sym (get_or-set_other sizes c (charge (suc k)) 0 0 differs)) (room (suc k))
-          | inr none ↦ omega (arith, none)
-        ])
-        (λ k l p q same. let e : suc k ≡ suc l = apart (suc k) (suc l) p q same in omega (arith, e)) in
-        omega (arith, sum_by-cons cells_in x xs, fits, less, rest)
-    | inr none ↦
-        let rest : sum_by cells_in xs ≤ sum sizes = sum_charged xs sizes (λ k. charge (suc k)) (λ k. room (suc k))
-        (λ k l p q same. let e : suc k ≡ suc l = apart (suc k) (suc l) p q same in omega (arith, e)) in
-        omega (arith, sum_by-cons cells_in x xs, none, rest)
-  ]
+  | inl some ↦
+      let c = charge 0 in
+      let fits : cells_in x ≤ get_or sizes c 0 = room 0 in
+      let within : c < length sizes = grind (arith, get_or_past) in
+      let less : sum (set sizes c 0) + get_or sizes c 0 ≡ sum sizes = omega (arith, sum_by-set (λ n. n) sizes c 0 0 within) in
+      let rest : sum_by cells_in xs ≤ sum (set sizes c 0) = sum_charged xs (set sizes c 0) (λ k. charge (suc k))
+      (λ k. elim (cases_lt 0 (many xs k)) [
+        | inl here ↦
+            let differs : charge (suc k) ≢ c = λ same. let e : suc k ≡ 0 = apart (suc k) 0 here some same in absurd (omega (arith, e)) in
+            subst (λ n. many xs k ≤ n) (sym (get_or-set_other sizes c (charge (suc k)) 0 0 differs)) (room (suc k))
+        | inr none ↦ omega (arith, none)
+      ])
+      (λ k l p q same. let e : suc k ≡ suc l = apart (suc k) (suc l) p q same in omega (arith, e)) in
+      omega (arith, sum_by-cons cells_in x xs, fits, less, rest)
+  | inr none ↦
+      let rest : sum_by cells_in xs ≤ sum sizes = sum_charged xs sizes (λ k. charge (suc k)) (λ k. room (suc k))
+      (λ k l p q same. let e : suc k ≡ suc l = apart (suc k) (suc l) p q same in omega (arith, e)) in
+      omega (arith, sum_by-cons cells_in x xs, none, rest)
+]
 
 -- a slot's cells are those that a look-up finds
 cells_in-is : (o : Option OwnerView) → cells_in o ≡ length (unwrap_or o no_owner).cells

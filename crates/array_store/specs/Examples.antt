@@ -1,5 +1,5 @@
 -- Worked examples: how holders follow leaves.
-use Rattle.std.specs.Prelude.{◌≡◌, ◌≢◌, ℕ, pos, List, [], ◌∷◌, Option, Some}
+use Rattle.std.specs.Prelude.{◌≡◌, ◌≢◌, pos, [], ◌∷◌, Some}
 use Rattle.apl_base.specs.declared.cells.Kind.TheVariants.{Num}
 use Rattle.array_store.specs.Stores.{OwnerView, StoreView, Makes, new_owner, empty_store, with_holders, without_owner, data_at}
 use Rattle.array_store.specs.Follows.{Follows, none, one_of, both}

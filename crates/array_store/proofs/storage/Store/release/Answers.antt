@@ -1,5 +1,5 @@
-use Rattle.std.proofs.Common.{[], ◌-◌, Some, ap, sym, ◌∙◌, subst, refl, arith}
-use Rattle.array_store.specs.Stores.{OwnerView, StoreView, IsStore, holders_of, with_holders}
+use Rattle.std.proofs.Common.{[], Some, ap, sym, ◌∙◌, subst, refl, arith}
+use Rattle.array_store.specs.Stores.{OwnerView, StoreView, IsStore}
 use Rattle.array_store.specs.Came.{Renews}
 use Rattle.array_store.proofs.CameLemmas.{renews_freed, renews_kept_at}
 use Rattle.array_store.proofs.StoreLemmas.{IsStore-with_owner, IsStore-without_owner, IsOwner-holders, owner_along, owner_found, owner_of-found}
