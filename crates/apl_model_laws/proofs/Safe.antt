@@ -17,7 +17,7 @@ use Rattle.apl_model.specs.declared.scripts.Command.{Command}
 use Rattle.apl_model.specs.declared.scripts.Command.TheVariants.{Vars, Fns, Erase, Origin}
 use Rattle.apl_model.specs.declared.tokens.Heading.{Heading}
 use Rattle.apl_model.specs.Call.{Routine, RoutineLine, entered, turn, on_turn, line_at, next_line, run_line, run_lines, run_found, routine_of, call_within, calls_of, labels_of}
-use Rattle.apl_model.specs.Frames.{with_turn, argument_binding, label_bindings, unset, with_call, frame_of, result_in}
+use Rattle.apl_model.specs.Frames.{line_number, with_turn, argument_binding, label_bindings, unset, with_call, frame_of, result_in}
 use Rattle.apl_model.specs.Environment.{Environment, Bindings, is_same_name, declares, bound_in, bound_to, found_in, look_up, set_in_frames, declared_in, set_name, unset_global, innermost_gone}
 use Rattle.apl_model.specs.Evaluation.{State, at_place, needed, origin_of, monadic_value, dyadic_value, replace_in, Calls, value_of, argument, positions_of, branch_by, branch_to, print_result, of_arrays, statement_flow}
 use Rattle.apl_model.specs.Order.{silently, show_value, expression_in}
@@ -26,7 +26,7 @@ use Rattle.apl_model.specs.Grammar.{IsExpression, ArePositions, IsPosition, IsSt
 use Rattle.apl_model.specs.Immediate.{of_states, Step, statement_step, command_step, obeyed, unwound, Ending, reported, well, Run, after_statement, run_steps, step_of, definitions_of, routine, report, beginning}
 use Rattle.apl_model.specs.Tree as tree
 use Rattle.apl_model.specs.Tree.{Tree, Slot, Positions, Statement, Script, Item, Definition, statement_item, command_item, definition_item, constant, variable, call, parenthesis, monadic, dyadic, reduction, outer_product, inner_product, assignment, indexed_assignment, output, elided, given, no_position, position, nothing, branch, expression}
-use Rattle.apl_model.specs.Whole.{Answer, is_empty, is_text, scalar}
+use Rattle.apl_model.specs.Whole.{Answer, is_empty, is_text}
 use Rattle.apl_model_laws.specs.Lawful.{IsOrigin, IsOptional, AreBindings, IsEnvironment, IsOutcome, CallsAreLawful, ExpressionsAreLawful, PositionsAreLawful, StatementsAreLawful, IsRoutine, FunctionsAreLawful, IsLawfulItem, RunsAreLawful, MonadicValuesAreLawful, DyadicValuesAreLawful, ReductionsAreLawful, OuterProductsAreLawful, InnerProductsAreLawful, SubscriptsAreLawful, ReplacementsAreLawful}
 use Rattle.apl_base.proofs.Lists.{all_append}
 use Rattle.apl_model_laws.proofs.Arrays.{scalar-array, Gives}
@@ -277,23 +277,23 @@ unset-lawful (n ∷ ns) = (tt, unset-lawful ns)
 pub below-number : (k n : ℕ) → k ≤ n → IsNumber (pos n) → IsNumber (pos k)
 below-number k n l h = record { least = omega (arith, ints, h.most, l); most = omega (arith, ints, h.most, l) }
 
-labels-lawful : (k n : ℕ) (ls : List (Option (List ℕ))) → k + length ls ≤ suc n → IsNumber (pos n) → AreBindings (label_bindings k ls)
+labels-lawful : (k n : ℕ) (ls : List (Option (List ℕ))) → k + length ls ≤ suc n → IsNumber (pos n) → AreBindings (label_bindings line_number k ls)
 labels-lawful k n [] l h = tt
 labels-lawful k n (x ∷ ls) l h =
-    all_append (λ (b : List ℕ × Option Array). IsOptional b.1) (argument_binding x (Some (scalar Num (pos k)))) (label_bindings (suc k) ls)
-    (argument_binding-lawful x (Some (scalar Num (pos k))) (scalar-array Num (pos k) (below-number k n (omega (arith, l)) h)))
+    all_append (λ (b : List ℕ × Option Array). IsOptional b.1) (argument_binding x (Some (line_number k))) (label_bindings line_number (suc k) ls)
+    (argument_binding-lawful x (Some (line_number k)) (scalar-array Num (pos k) (below-number k n (omega (arith, l)) h)))
     (labels-lawful (suc k) n ls (omega (arith, l)) h)
 
 bindings_append : (xs ys : Bindings Array) → AreBindings xs → AreBindings ys → AreBindings (xs ++ ys)
 bindings_append xs ys a b = all_append (λ (b : List ℕ × Option Array). IsOptional b.1) xs ys a b
 
-frame-lawful : (r : Routine Statement) (left right : Option Array) → IsNumber (pos (length r.body)) → IsOptional left → IsOptional right → AreBindings (frame_of r.header (labels_of r.body) left right)
+frame-lawful : (r : Routine Statement) (left right : Option Array) → IsNumber (pos (length r.body)) → IsOptional left → IsOptional right → AreBindings (frame_of line_number r.header (labels_of r.body) left right)
 frame-lawful r left right h p q =
     let a = argument_binding r.header.result None in
     let b = argument_binding r.header.left left in
     let c = argument_binding r.header.right right in
     let d = map unset r.header.locals in
-    bindings_append (a ++ b ++ c ++ d) (label_bindings 1 (labels_of r.body)) (bindings_append (a ++ b ++ c) d (bindings_append (a ++ b) c (bindings_append a b
+    bindings_append (a ++ b ++ c ++ d) (label_bindings line_number 1 (labels_of r.body)) (bindings_append (a ++ b ++ c) d (bindings_append (a ++ b) c (bindings_append a b
     (argument_binding-lawful r.header.result None tt) (argument_binding-lawful r.header.left left p)) (argument_binding-lawful r.header.right right q)) (unset-lawful r.header.locals))
     (labels-lawful 1 (length r.body) (labels_of r.body) (omega (arith, length-map r.body (λ (l : RoutineLine Statement). l.label))) h)
 
