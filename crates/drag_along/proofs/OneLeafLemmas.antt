@@ -3,13 +3,12 @@ use Rattle.std.proofs.Common.{◌≡◌, ℕ, zero, suc, ◌+◌, ◌<◌, ◌�
 use Rattle.std.specs.Prelude.{◌↔◌}
 use Rattle.std.specs.List.{AllByRecursion}
 use Rattle.std.proofs.Math.Dec.{eqb}
-use Rattle.std.proofs.lemmas.List.{length-map}
 use Rattle.apl_base.specs.declared.cells.Kind.{Kind}
 use Rattle.apl_base.specs.declared.cells.Interval.{Interval}
-use Rattle.apl_base.specs.Array.{IsIndex, size_of, index_at, place_at}
+use Rattle.apl_base.specs.Array.{IsIndex, size_of, place_at}
 use Rattle.apl_base.specs.Interval.{InInterval}
-use Rattle.apl_base.specs.Selection.{upward}
-use Rattle.apl_base.proofs.Sizes.{place_at-below, index_at-place_at}
+use Rattle.apl_base.proofs.Sizes.{place_at-below}
+use Rattle.apl_base.proofs.Elements.{tabulated-count, tabulated-at}
 use Rattle.array_store.specs.Stores.{StoreView}
 use Rattle.array_store.specs.Follows.{one_of}
 use Rattle.drag_along.specs.declared.leaves.Leaf.{Leaf}
@@ -22,8 +21,6 @@ use Rattle.drag_along.specs.Meaning.{Means, leaf_cell, leaf_array, entry}
 use Rattle.drag_along.specs.Lawful.{IsLawfulLeaf, LeafWithin, IsLawful}
 use Rattle.drag_along.specs.Views.{only_leaf}
 use Rattle.drag_along.proofs.LeafLemmas.{IsLawful-leaf, entry-leaf}
-use Rattle.drag_along.proofs.LawfulLemmas.{length-upward}
-use Rattle.drag_along.proofs.StepLemmas.{leaf_array-cell}
 
 -- ---- an owner is named at most as often as there are leaves
 
@@ -94,10 +91,9 @@ by_place P (x ∷ xs) (suc k) d h below = by_place P xs k d h.1 (omega (arith, b
 -- where all cells of the array lie in the range, so do the leaf's elements
 pub array_within : (s : StoreView) (sh : List ℕ) (leaf : Leaf) (range : Interval) → AllByRecursion (InInterval range) (leaf_array s sh leaf).cells → (i : List ℕ) → IsIndex sh i → InInterval range (leaf_cell s leaf i)
 array_within s sh leaf range all i index =
-    let many : length (leaf_array s sh leaf).cells ≡ size_of sh =
-    length-map (upward 0 (size_of sh)) (λ p. leaf_cell s leaf (index_at sh p)) ∙ length-upward 0 (size_of sh) in
-    subst (InInterval range) (leaf_array-cell s sh leaf i index)
-    (by_place (InInterval range) (leaf_array s sh leaf).cells (place_at sh i) (pos 0) all (omega (arith, many, place_at-below sh i index)))
+    subst (InInterval range) (tabulated-at (leaf_kind leaf) sh (leaf_cell s leaf) i index)
+    (by_place (InInterval range) (leaf_array s sh leaf).cells (place_at sh i) (pos 0) all
+    (omega (arith, tabulated-count (leaf_kind leaf) sh (leaf_cell s leaf), place_at-below sh i index)))
 
 pub one_leaf_lawful : (s : StoreView) (leaf : Leaf) (range : Interval) → IsLawful s (leaf_segment leaf range) ↔ (IsLawfulLeaf s leaf × LeafWithin s leaf range)
 unfolding entry
