@@ -2,3 +2,4 @@ pub mod CodeLemmas
 pub mod Emitting
 pub mod LawfulLemmas
 pub mod ProgramLemmas
+pub mod Tabled

@@ -5,7 +5,12 @@ mod codes;
 mod compiler;
 mod expressions;
 mod laws;
+mod programs;
+mod scripts;
+mod tables;
 
 pub use codes::{Code, Instruction, Op};
 pub use compiler::compile;
 pub use laws::{codes_are_lawful, codes_do, immediate_is_run, one_report, programs_do};
+pub use programs::{Function, Program};
+pub use scripts::compile_script;
