@@ -1,12 +1,12 @@
 -- The code of a tree does what the tree does, and goes on with its value; the code of a statement does what it does.
-use Rattle.std.proofs.Common.{◌≡◌, ℕ, zero, suc, Bool, true, false, List, [], ◌∷◌, ◌++◌, Option, Some, None, refl, ap, sym, ◌∙◌, append_assoc}
+use Rattle.std.proofs.Common.{◌≡◌, ℕ, Bool, true, false, List, [], ◌∷◌, ◌++◌, Option, Some, None, refl, ap, sym, ◌∙◌, append_assoc}
 use Rattle.std.specs.Option.{option_map}
 use Rattle.apl_base.specs.declared.faults.Place.{Place}
 use Rattle.apl_model.specs.Order.{Values, value_in, argument_in, positions_in, expression_in, flow_in, show_value, silently}
 use Rattle.apl_model.specs.Outcome.{Outcome, done, fails, spent, and_then, Flow, onwards}
 use Rattle.apl_model.specs.Tree.{Tree, Slot, Positions, Statement, constant, variable, call, parenthesis, monadic, dyadic, reduction, outer_product, inner_product, subscript, assignment, indexed_assignment, output, elided, given, no_position, position, nothing, branch, expression}
 use Rattle.apl_compile.specs.Code.{at, arguments, is_given, mask_of, expression_code, slot_code, positions_code, ending, printing, whole_code, code_on}
-use Rattle.apl_compile.specs.Execution.{Doing, comes, missing, goes_on, Taken, with_position, taken, with_result, indexed, replaced, called, called_with, exec}
+use Rattle.apl_compile.specs.Execution.{Doing, comes, goes_on, with_position, taken, with_result, indexed, replaced, called, called_with, exec}
 use Rattle.apl_compile.specs.declared.codes.Instruction.{Instruction}
 use Rattle.apl_compile.specs.declared.codes.Op.TheVariants as op
 

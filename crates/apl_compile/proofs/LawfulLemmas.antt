@@ -4,12 +4,12 @@ use Rattle.std.specs.Option.{option_map, option_and_then}
 use Rattle.apl_base.specs.declared.faults.Place.{Place}
 use Rattle.apl_model.specs.Order.{Values}
 use Rattle.apl_model.specs.Outcome.{Outcome, done, fails, spent, Flow, onwards}
-use Rattle.apl_model.specs.Tree.{Tree, Slot, Positions, Statement, constant, variable, call, parenthesis, monadic, dyadic, reduction, outer_product, inner_product, subscript, assignment, indexed_assignment, output, elided, given, no_position, position, nothing, branch, expression}
+use Rattle.apl_model.specs.Tree.{Tree, Slot, Positions, constant, variable, call, parenthesis, monadic, dyadic, reduction, outer_product, inner_product, subscript, assignment, indexed_assignment, output, elided, given, no_position, position, nothing, branch, expression}
 use Rattle.apl_compile.specs.declared.codes.Instruction.{Instruction}
 use Rattle.apl_compile.specs.declared.codes.Op.{Op}
 use Rattle.apl_compile.specs.declared.codes.Op.TheVariants as op
-use Rattle.apl_compile.specs.Code.{at, arguments, mask_of, expression_code, slot_code, positions_code, ending, printing, whole_code, code_on}
-use Rattle.apl_compile.specs.Execution.{Doing, comes, missing, goes_on, Taken, with_position, taken, newest, others, with_result, put, indexed, replaced_by, replaced, called, called_with, act, exec}
+use Rattle.apl_compile.specs.Code.{at, arguments, mask_of, expression_code, slot_code, positions_code, ending, printing, whole_code}
+use Rattle.apl_compile.specs.Execution.{Doing, missing, goes_on, Taken, with_position, taken, with_result, put, indexed, replaced_by, replaced, called, called_with, act, exec}
 use Rattle.apl_compile.specs.Lawful.{Operands, just, result_or_none, ended, less, with_value, after_call, after, after_code, Leads, IsLawfulCode, StatementsAreLawful, LawfulCodeHasOperands}
 
 -- ---- lawful code has its operands
