@@ -108,7 +108,7 @@ pub record Run (S : Type 0) : Type 0 where
   pub state : S
 
 module _ {S V T : Type 0} (M : Steps S V) (flow_of : T → S → Outcome S Flow) (functions : List (List ℕ)) (report_of : ErrorKind → Place → List ℕ) where
-  -- after a statement: an error prints its report, and the script goes on; a spent budget ends it
+  -- after a statement: an error prints its report, and the script goes on; a spent budget ends it. Both end all calls
   abbrev pub after_statement : {A : Type 0} → Ending → Outcome S A → (Ending → S → Run S) → Run S
   after_statement ending (done a s) next = next ending s
   after_statement ending (fails kind place s) next = next reported (M.tell (report_of kind place) (M.unwind s))
