@@ -13,7 +13,7 @@ use Rattle.array_desc.specs.Desc.{DescView, IsDesc, dot}
 use Rattle.array_desc.specs.Steps.{stride_at, lesser, least_with}
 use Rattle.apl_base.proofs.Integers.{add_mul}
 use Rattle.apl_base.proofs.Sizes.{IsIndex-length}
-use Rattle.apl_base.proofs.Tests.{eqb-same, eqb-other, eqb-passed}
+use Rattle.apl_base.proofs.Booleans.{eqb-same, eqb-other, eqb-passed}
 use Rattle.apl_base.proofs.Transposes.{below_next, few_axes}
 use Rattle.apl_base.proofs.Upward.{length-map-upward}
 use Rattle.array_desc.proofs.Sums.{Meets, Near, meets-near}
