@@ -2,7 +2,7 @@ use Rattle.std.proofs.Common.{ℕ, zero, suc, ◌<◌, List, [], ◌∷◌, refl
 use Rattle.std.specs.Prelude.{Contains}
 use Rattle.apl_base.specs.Selection.{AreAxes}
 use borrow.Author.Count.{below_more}
-use Rattle.beating.proofs.tests.transposition_rows.Goals as goal
+use Rattle.selection_tests.proofs.selections.transposition_rows.Goals as goal
 
 -- each number below k is in the list
 abbrev Holds : ℕ → List ℕ → Type 0
@@ -25,17 +25,8 @@ diagonal = record {
   each = each_held 2 (0 ∷ 1 ∷ 0 ∷ []) ((1, omega arith, refl), ((0, omega arith, refl), tt));
 }
 
-two_diagonals : AreAxes 2 (1 ∷ 0 ∷ 1 ∷ 0 ∷ [])
-two_diagonals = record {
-  below = (omega arith, (omega arith, (omega arith, (omega arith, tt))));
-  each = each_held 2 (1 ∷ 0 ∷ 1 ∷ 0 ∷ []) ((0, omega arith, refl), ((1, omega arith, refl), tt));
-}
+pub transposes-requires-clause-axes : goal.transposes-requires-clause-axes
+transposes-requires-clause-axes g c = swapped
 
 pub transposes-requires-2-clause-axes : goal.transposes-requires-2-clause-axes
-transposes-requires-2-clause-axes g c = swapped
-
-pub transposes-requires-4-clause-axes : goal.transposes-requires-4-clause-axes
-transposes-requires-4-clause-axes g c = diagonal
-
-pub transposes-requires-5-clause-axes : goal.transposes-requires-5-clause-axes
-transposes-requires-5-clause-axes g c = two_diagonals
+transposes-requires-2-clause-axes g c = diagonal
