@@ -1,5 +1,5 @@
 -- Facts on whole arrays: values that are all defined, the indices of a shape, and arrays made index by index.
-use Rattle.std.proofs.Common.{◌≡◌, ℕ, zero, suc, ◌+◌, ◌*◌, ◌<◌, ◌≤◌, ℤ, pos, List, [], ◌∷◌, ◌++◌, length, map, get_or, Option, Some, None, IfSome, refl, sym, ap, subst, ◌∙◌, arith}
+use Rattle.std.proofs.Common.{◌≡◌, ℕ, zero, suc, ◌+◌, ◌*◌, ◌<◌, ◌≤◌, ℤ, pos, List, [], ◌∷◌, length, map, get_or, Option, Some, None, IfSome, refl, sym, ap, subst, ◌∙◌, arith}
 use Rattle.std.proofs.lemmas.List.{map-append, length-map}
 use Rattle.std.proofs.lemmas.Simd.{map-map}
 use Rattle.std.proofs.lemmas.Nat.{div-mul-add, mod-mul-add}
@@ -10,7 +10,7 @@ use Rattle.apl_base.specs.Array.{Array, size_of, IsIndex, place_at, index_at, ce
 use Rattle.apl_base.specs.Elements.{element, elements, all_defined, indices, tabulated, gathered}
 use Rattle.apl_base.specs.Selection.{upward}
 use Rattle.apl_base.proofs.Sizes.{place_at-below, IsIndex-index_at, place_at-index_at, index_at-place_at}
-use Rattle.apl_base.proofs.Upward.{length-upward, get_or-upward, upward-append, length-map-upward, get_or-map-places, all-map-upward, map-upward-same, list_by_places}
+use Rattle.apl_base.proofs.Upward.{upward-append, length-map-upward, get_or-map-places, all-map-upward, map-upward-same, list_by_places}
 
 -- as many elements as cells
 pub length-elements : (a : Array) → length (elements a) ≡ length a.cells

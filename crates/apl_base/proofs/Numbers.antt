@@ -1,10 +1,10 @@
 -- Which integers are numbers of the language.
-use Rattle.std.proofs.Common.{◌≡◌, ℕ, ◌^◌, ◌≤◌, Bool, true, ◌&&◌, ℤ, pos, negsuc, neg_ℤ, int_le, unsigned_abs, arith}
+use Rattle.std.proofs.Common.{◌≡◌, ℕ, ◌^◌, ◌≤◌, true, ℤ, pos, negsuc, neg_ℤ, int_le, unsigned_abs, arith}
 use Rattle.std.specs.Int.{int_min, int_max}
 use Rattle.std.proofs.lemmas.Int.{ints, clamps}
 use Rattle.apl_base.specs.declared.cells.TheConstants.{M}
 use Rattle.apl_base.specs.Number.{IsNumber, is_number}
-use Rattle.apl_base.proofs.Tests.{both_parts}
+use Rattle.apl_base.proofs.Booleans.{both_parts}
 
 -- what the test says
 pub is_number-true : (z : ℤ) → is_number z ≡ true → IsNumber z

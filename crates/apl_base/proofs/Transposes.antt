@@ -5,7 +5,7 @@ use borrow.Author.Count.{below_more}
 use Rattle.std.proofs.Math.Nat.{mul-le-mul}
 use Rattle.apl_base.specs.Array.{IsShape, size_of}
 use Rattle.apl_base.specs.Selection.{AreAxes, axes_rank, least, lengths_at, upward, transpose_shape}
-use Rattle.apl_base.proofs.Tests.{eqb-same, eqb-other, eqb-passed}
+use Rattle.apl_base.proofs.Booleans.{eqb-same, eqb-other, eqb-passed}
 use Rattle.apl_base.proofs.Upward.{length-map-upward, all-map-upward}
 
 -- a number below one is below the next

@@ -73,6 +73,7 @@ module _ {S V : Type 0} (M : Steps S V) where
   turn line zero act s = spent s
   turn line (suc left) act s = entered line (suc (M.begun s)) (act (M.begin left s))
 
+  -- a turn of those that are left
   abbrev pub on_turn : {A : Type 0} → ℕ → (S → Outcome S A) → S → Outcome S A
   on_turn line act s = turn line (M.turns s) act s
 

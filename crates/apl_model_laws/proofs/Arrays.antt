@@ -15,7 +15,7 @@ use Rattle.apl_base.specs.Number.{IsNumber, IsCell}
 use Rattle.apl_base.proofs.Elements.{tabulated-count, tabulated-each}
 use Rattle.apl_base.proofs.Lists.{all_imp, all_map, all_at}
 use Rattle.apl_base.proofs.Numbers.{IsNumber-small}
-use Rattle.apl_base.proofs.Tests.{both_parts, not-false, list_all-each, each-list_all}
+use Rattle.apl_base.proofs.Booleans.{both_parts, not-false, list_all-each, each-list_all}
 use Rattle.scalar_table.specs.Row.{IsElement, IsNumberElement}
 use Rattle.apl_model.specs.Whole.{Answer, is_shape, error_if, error_or, within_limit, or_domain, first, vector, scalar, fill}
 use Rattle.apl_model_laws.specs.Lawful.{IsAnswer, IsOrigin, ShapesAreTested}

@@ -20,7 +20,7 @@ use Rattle.apl_base.proofs.Elements.{all_defined-each}
 use Rattle.apl_base.proofs.Lists.{all_imp, all_map, all_append, all_replicate, all_at}
 use Rattle.apl_base.proofs.Sizes.{size_of-append}
 use Rattle.apl_base.proofs.Numbers.{IsNumber-small}
-use Rattle.apl_base.proofs.Tests.{both_parts, neither_part, not-false}
+use Rattle.apl_base.proofs.Booleans.{both_parts, neither_part, not-false}
 use Rattle.apl_base.proofs.Transposes.{transposed_shape}
 use Rattle.apl_base.proofs.Upward.{length-upward}
 use Rattle.scalar_table.specs.LawfulNumbers.{of_numbers-lawful}

@@ -24,6 +24,7 @@ use Rattle.apl_model_laws.specs.Printing.{onto, outcome_onto, CallsPrintBehind, 
 use Rattle.apl_model_laws.proofs.Kept.{Leads, leads_statement, leads_call, run_kept}
 use Rattle.apl_model_laws.proofs.Counted.{Grows, printed_kept}
 
+-- each of these does the same after more text
 needed_onto : (text : List ℕ) (place : Place) (a : Option Array) (s : State) → needed place a (onto text s) ≡ outcome_onto text (needed place a s)
 needed_onto text place (Some a) s = refl
 needed_onto text place None s = refl

@@ -22,7 +22,7 @@ use Rattle.apl_base.specs.Selection.{upward, reverse_index, drop_shape, drop_ind
 use Rattle.apl_base.proofs.Integers.{magnitude-below}
 use Rattle.apl_base.proofs.Lists.{all_imp, all_map, all_mapped, all_append, all_replicate, all_at}
 use Rattle.apl_base.proofs.Numbers.{IsNumber-small}
-use Rattle.apl_base.proofs.Tests.{both_parts, neither_part, not-false}
+use Rattle.apl_base.proofs.Booleans.{both_parts, neither_part, not-false}
 use Rattle.apl_base.proofs.Upward.{length-upward, length-map-upward, all-upward}
 use Rattle.scalar_table.specs.LawfulNumbers.{truth-lawful, of_numbers-lawful}
 use Rattle.apl_model.specs.declared.functions.Axis.{Axis}

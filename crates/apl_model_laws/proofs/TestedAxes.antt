@@ -9,7 +9,7 @@ use Rattle.std.proofs.lemmas.Int.{ints}
 use Rattle.apl_base.specs.Selection.{AreAxes, axes_rank}
 use Rattle.apl_base.proofs.Integers.{magnitude-is}
 use Rattle.apl_base.proofs.Lists.{all_imp}
-use Rattle.apl_base.proofs.Tests.{both_parts, list_all-each, each-list_all}
+use Rattle.apl_base.proofs.Booleans.{both_parts, list_all-each, each-list_all}
 use Rattle.apl_model.specs.Made.{is_axis_among, are_axes}
 use Rattle.apl_model_laws.specs.Lawful.{AxesAreTested}
 

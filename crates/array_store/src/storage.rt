@@ -3,6 +3,7 @@ ghost use Rattle.apl_base.specs.Number.{IsCell};
 ghost use Rattle.apl_base.specs.Interval.{InInterval};
 ghost use Rattle.array_store.specs.Stores.{IsOwner, IsStore, Makes, owner_of, HasRoom, holders_of, cells_of, kind_of, interval_of, cell_of, empty_store, new_owner, with_holders, with_cell, without_owner};
 ghost use Rattle.array_store.specs.Places.{PlacesWithin, cells_along};
+ghost use Rattle.array_store.specs.Came.{Renews};
 ghost use Rattle.array_store.specs.Counting.{OnlyFetched, OnlyComputed, after_fetches, after_applications};
 ghost use Rattle.array_store.specs.Follows.{Follows, none, one_of};
 
@@ -225,6 +226,8 @@ impl Store {
             → self.new ≡ with_holders self.old owner (holders_of self.old owner - 1) }
         ensures freed { holders_of self.old owner ≡ 1 → self.new ≡ without_owner self.old owner }
         ensures follows { Follows self.old self.new (one_of owner) none }
+        ensures renews { Renews self.old self.new [] }
+        ensures counts { self.new.counts ≡ self.old.counts }
         ensures store { IsStore self.new }
     {
         if self.holders(owner) == 1 {
