@@ -1,17 +1,7 @@
-use Rattle.std.proofs.Common.{ℕ, zero, suc, ◌<◌, List, [], ◌∷◌, refl, arith}
-use Rattle.std.specs.Prelude.{Contains}
+use Rattle.std.proofs.Common.{[], ◌∷◌, refl, arith}
 use Rattle.apl_base.specs.Selection.{AreAxes}
-use borrow.Author.Count.{below_more}
+use Rattle.apl_base.proofs.Transposes.{each_held}
 use Rattle.selection_tests.proofs.selections.transposition_rows.Goals as goal
-
--- each number below k is in the list
-abbrev Holds : ℕ → List ℕ → Type 0
-Holds zero axes = Unit {0}
-Holds (suc k) axes = Contains axes k × Holds k axes
-
-each_held : (k : ℕ) (axes : List ℕ) → Holds k axes → (r : ℕ) → r < k → Contains axes r
-each_held zero axes h r p = absurd (omega (arith, p))
-each_held (suc k) axes h r p = below_more (λ n. Contains axes n) k (each_held k axes h.1) h.0 r (omega (arith, p))
 
 swapped : AreAxes 2 (1 ∷ 0 ∷ [])
 swapped = record {
