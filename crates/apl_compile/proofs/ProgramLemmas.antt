@@ -6,7 +6,7 @@ use Rattle.apl_base.specs.declared.faults.ErrorKind.{ErrorKind}
 use Rattle.apl_base.specs.declared.faults.Place.{Place}
 use Rattle.apl_model.proofs.Agreement.{translated_runs_agree}
 use Rattle.apl_model.specs.Agreement.{mapped_line, mapped_routine, mapped_step}
-use Rattle.apl_model.specs.Call.{Routine, RoutineLine, Steps, calls_of}
+use Rattle.apl_model.specs.Call.{Routine, RoutineLine, States, calls_of}
 use Rattle.apl_model.specs.Evaluation.{State, of_arrays}
 use Rattle.apl_base.specs.Array.{Array}
 use Rattle.apl_model.specs.Immediate.{Run, Step, statement_step, command_step, run_steps, well, prefix_or, prefix_in, line_text, report, routine, routine_line, step_of, definition_in, definitions_of, of_states, beginning, immediate, told}

@@ -3,7 +3,7 @@ use Rattle.std.specs.Prelude.{◌≡◌, ℕ, List, [], ◌∷◌, ◌++◌, map
 use Rattle.std.specs.List.{filter_map}
 use Rattle.apl_base.specs.declared.faults.ErrorKind.{ErrorKind}
 use Rattle.apl_base.specs.declared.faults.Place.{Place}
-use Rattle.apl_model.specs.Call.{Steps, calls_of}
+use Rattle.apl_model.specs.Call.{States, calls_of}
 use Rattle.apl_model.specs.Evaluation.{of_arrays}
 use Rattle.apl_model.specs.Immediate.{Run, run_steps, well, routine, step_of, definitions_of, report, of_states, beginning, immediate, told}
 use Rattle.apl_model.specs.Order.{CallsOf, Values, value_in, flow_in}
@@ -29,7 +29,7 @@ abbrev pub tree_meaning : {S V : Type 0} → (CallsOf S V → Values S V) → Ca
 tree_meaning values calls t s = flow_in (values calls) t s
 
 -- the run of a script's statements and commands
-abbrev pub run_script : {S V : Type 0} → Steps S V → (CallsOf S V → Values S V) → Script → S → Run S
+abbrev pub run_script : {S V : Type 0} → States S V → (CallsOf S V → Values S V) → Script → S → Run S
 run_script M values script s =
     let definitions = definitions_of script.items in
     run_steps M (tree_meaning values (calls_of M (tree_meaning values) (map routine definitions)))
@@ -37,7 +37,7 @@ run_script M values script s =
 
 -- a script's routines and steps run by their codes as by their statements
 abbrev pub ProgramDoes : (S V : Type 0) → Type 0
-ProgramDoes S V = (M : Steps S V) (values : CallsOf S V → Values S V) (script : Script) (s : S) →
+ProgramDoes S V = (M : States S V) (values : CallsOf S V → Values S V) (script : Script) (s : S) →
     run_program M values (program_of script) s ≡ run_script M values script s
 
 -- immediate evaluation of a script is the run of its compiled program over arrays
