@@ -8,23 +8,20 @@ use Rattle.std.proofs.lemmas.List.{length-map, map-append, reverse-append, lengt
 use Rattle.std.proofs.lemmas.Bool.{cases_lt}
 use Rattle.std.proofs.lemmas.Int.{ints}
 use Rattle.apl_base.specs.declared.faults.ErrorKind.TheVariants as error
-use Rattle.apl_base.specs.Array.{Array, IsIndex}
+use Rattle.apl_base.specs.Array.{Array}
 use Rattle.apl_base.specs.Elements.{gathered}
 use Rattle.apl_base.specs.Selection.{upward, reverse_index, AreAxes, axes_rank, least, lengths_at, transpose_shape, transpose_index}
 use Rattle.apl_base.proofs.Booleans.{eqb-same, eqb-other, eqb-passed}
 use Rattle.apl_base.proofs.Elements.{tabulated-back}
 use Rattle.apl_base.proofs.Sizes.{IsIndex-length}
-use Rattle.apl_base.proofs.Upward.{length-upward, upward-append, list_by_places}
-use Rattle.beating.specs.declared.selections.Selection.{Selection}
+use Rattle.apl_base.proofs.Upward.{upward-append, list_by_places}
 use Rattle.beating.specs.declared.selections.Selection.TheVariants as select
-use Rattle.beating.specs.Selecting.{Fits, selected}
-use Rattle.apl_model.specs.declared.functions.Axis.{Axis}
 use Rattle.apl_model.specs.declared.functions.Axis.TheVariants.{Last, First, Numbered}
-use Rattle.apl_model.specs.Whole.{Answer, rank, count, is_text, error_if, error_or}
-use Rattle.apl_model.specs.Made.{is_above_one, reversed, flipped, less_origin, are_axes, transposed}
+use Rattle.apl_model.specs.Whole.{Answer, rank, count, is_text, error_if}
+use Rattle.apl_model.specs.Made.{is_above_one, less_origin, are_axes}
 use Rattle.apl_model_laws.proofs.TestedAxes.{axes_are_tested}
 use Rattle.pending_laws.specs.Joins.{IsComplete}
-use Rattle.pending_laws.specs.Selections.{SendsAxes, IsNumberList, NamesAxis, ReversedIsSelected, ReversedScalarStays, FlippedIsSelected, TransposedIsSelected}
+use Rattle.pending_laws.specs.Selections.{ReversedIsSelected, ReversedScalarStays, FlippedIsSelected, TransposedIsSelected}
 use Rattle.pending_laws.proofs.AnswerLemmas.{passes_if, passes_or, not-above_one, neither, le-test, lt-test, gathered-same}
 
 -- ---- reversals
@@ -112,6 +109,7 @@ sent (n ∷ ns) r h = by (sent ns r) (cases_lt r (length ns))
   where
     back : get_or (reverse (n ∷ ns)) r 0 ≡ get_or (reverse ns ++ n ∷ []) r 0
     back = ap (λ (xs : List ℕ). get_or xs r 0) (reverse-append (n ∷ []) ns)
+
     by : (r < length ns → least (lengths_at r (downward (length ns)) ns) ≡ get_or (reverse ns) r 0) → (r < length ns) ⊎ (length ns ≤ r) →
         least (lengths_at r (downward (length (n ∷ ns))) (n ∷ ns)) ≡ get_or (reverse (n ∷ ns)) r 0
     by rest (inl l) =

@@ -1,24 +1,22 @@
 -- Operands over a greater shape.
-use Rattle.std.proofs.Common.{◌≡◌, ◌==◌, ◌⊎◌, ℕ, zero, suc, ◌+◌, ◌*◌, ◌<◌, Bool, true, ℤ, pos, List, [], ◌∷◌, ◌++◌, length, map, get_or, take, drop, replicate, Option, Some, None, Ok, refl, sym, ap, ◌∙◌, inl, inr, arith}
+use Rattle.std.proofs.Common.{◌≡◌, ◌==◌, ℕ, zero, suc, Bool, true, ℤ, pos, List, [], ◌∷◌, ◌++◌, length, map, get_or, take, drop, replicate, Option, refl, sym, ap, ◌∙◌, inl, inr, arith}
 use Rattle.std.specs.Prelude.{slice_index_or}
 use Rattle.std.specs.List.{zip}
 use Rattle.apl_base.specs.declared.cells.Kind.{Kind}
 use Rattle.apl_base.specs.declared.cells.Elem.{Elem}
-use Rattle.apl_base.specs.declared.faults.Place.{Place}
 use Rattle.apl_base.specs.declared.rows.Dya.{Dya}
 use Rattle.apl_base.specs.Array.{Array, size_of, place_at, index_at, cell_at}
-use Rattle.apl_base.specs.Elements.{element, elements, numbers, all_defined, indices, tabulated}
+use Rattle.apl_base.specs.Elements.{element, elements, numbers, all_defined, indices}
 use Rattle.apl_base.specs.Scalar.{scalar2}
 use Rattle.apl_base.specs.Selection.{upward, only_index}
 use Rattle.apl_base.proofs.Booleans.{eqb-same}
 use Rattle.apl_base.proofs.Elements.{tabulated-count, map-indices}
 use Rattle.apl_base.proofs.Upward.{list_by_places}
 use Rattle.beating.specs.declared.selections.Selection.TheVariants as select
-use Rattle.beating.specs.Selecting.{Fits, selected}
-use Rattle.drag_along.specs.Meaning.{Meaning, Means, combined2}
+use Rattle.beating.specs.Selecting.{selected}
 use Rattle.apl_model.specs.Whole.{Answer, rank, first, or_domain}
-use Rattle.apl_model.specs.Lift.{fitting_shape, spread, spread_to, lift_over, lift2}
-use Rattle.apl_model.specs.Product.{elem_at, outer}
+use Rattle.apl_model.specs.Lift.{spread, spread_to, lift_over}
+use Rattle.apl_model.specs.Product.{elem_at}
 use Rattle.pending_laws.specs.Joins.{meaning_of, IsComplete}
 use Rattle.pending_laws.specs.Extensions.{ExtensionIsSpread, ExtensionToOneElement, IsOver, ExtendedJoinIsTheLift, OuterIsTheLift, OuterJoinIsTheProduct}
 use Rattle.pending_laws.proofs.AnswerLemmas.{passes_limit}

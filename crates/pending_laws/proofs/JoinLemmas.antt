@@ -1,5 +1,5 @@
 -- The lift of arrays of one shape takes their elements as they are.
-use Rattle.std.proofs.Common.{◌≡◌, ◌==◌, ℕ, Bool, true, false, ℤ, pos, List, [], ◌∷◌, length, map, replicate, Option, Some, None, Ok, Err, refl, sym, ap, subst, ◌∙◌, arith}
+use Rattle.std.proofs.Common.{◌≡◌, ◌==◌, ℕ, Bool, true, false, ℤ, pos, List, [], ◌∷◌, length, map, replicate, Option, Some, None, Ok, Err, refl, sym, ap, ◌∙◌, arith}
 use Rattle.std.specs.Prelude.{nat_eq, slice_index_or}
 use Rattle.std.specs.Cmp.Lexicographic.{pointwise}
 use Rattle.std.specs.List.{zip}
@@ -9,14 +9,13 @@ use Rattle.apl_base.specs.declared.cells.Elem.{Elem}
 use Rattle.apl_base.specs.declared.faults.ErrorKind.{ErrorKind}
 use Rattle.apl_base.specs.declared.faults.ErrorKind.TheVariants as error
 use Rattle.apl_base.specs.declared.faults.Place.{Place}
-use Rattle.apl_base.specs.declared.rows.Mon.{Mon}
 use Rattle.apl_base.specs.declared.rows.Dya.{Dya}
 use Rattle.apl_base.specs.Array.{Array, size_of}
 use Rattle.apl_base.specs.Elements.{element, elements, numbers, all_defined}
 use Rattle.apl_base.specs.Scalar.{scalar1, scalar2}
 use Rattle.apl_base.proofs.Booleans.{eqb-same}
 use Rattle.drag_along.specs.Meaning.{numbers_or}
-use Rattle.apl_model.specs.Whole.{Answer, first, or_domain}
+use Rattle.apl_model.specs.Whole.{first, or_domain}
 use Rattle.apl_model.specs.Lift.{fitting_shape, shape_by, spread, spread_to, lift_over, lift2}
 use Rattle.pending_laws.specs.Joins.{meaning_of, IsComplete, OneIsTheLift, TwoAreTheLift, OneFaultIsDomain, TwoFaultsAreDomain}
 

@@ -1,26 +1,23 @@
 -- Positions of a subscript, one after the other.
-use Rattle.std.proofs.Common.{◌≡◌, ◌==◌, ℕ, zero, suc, ◌+◌, ◌*◌, ◌<◌, Bool, true, false, not, ◌&&◌, ◌||◌, ℤ, pos, ◌+ℤ◌, ◌-ℤ◌, int_le, int_lt, unsigned_abs, List, [], ◌∷◌, ◌++◌, length, map, get_or, take, drop, Option, Some, None, Ok, refl, sym, ap, subst, ◌∙◌, arith}
+use Rattle.std.proofs.Common.{◌≡◌, ◌==◌, ℕ, suc, ◌+◌, ◌*◌, ◌<◌, Bool, true, false, not, ◌&&◌, ◌||◌, ℤ, pos, ◌+ℤ◌, ◌-ℤ◌, unsigned_abs, List, [], ◌∷◌, ◌++◌, length, map, take, drop, Option, Some, None, Ok, refl, sym, ap, subst, ◌∙◌, arith}
 use Rattle.std.specs.Prelude.{slice_index_or}
-use Rattle.std.specs.List.{AllByRecursion, list_all, list_any}
+use Rattle.std.specs.List.{AllByRecursion, list_any}
 use Rattle.std.proofs.lemmas.List.{take-append-drop}
 use Rattle.apl_base.specs.declared.faults.ErrorKind.TheVariants as error
 use Rattle.apl_base.specs.Array.{Array, IsShape, IsIndex, size_of, place_at, cell_at}
-use Rattle.apl_base.specs.Elements.{gathered}
 use Rattle.apl_base.specs.Selection.{Position, whole, one, run, subscript_shape, subscript_index}
 use Rattle.apl_base.proofs.Booleans.{eqb-same, each-list_all}
 use Rattle.apl_base.proofs.Sizes.{IsIndex-length}
 use Rattle.beating.specs.declared.runs.Run.{Run}
 use Rattle.beating.specs.declared.selections.Item.{Item}
-use Rattle.beating.specs.declared.selections.Item.TheVariants as item
-use Rattle.beating.specs.declared.selections.Selection.{Selection}
 use Rattle.beating.specs.declared.selections.Selection.TheVariants as select
-use Rattle.beating.specs.Runs.{run_value, IsRunOf}
+use Rattle.beating.specs.Runs.{run_value}
 use Rattle.beating.specs.Positions.{NamesPlace, OnAxis, IsItemOf}
 use Rattle.beating.specs.Positions as positions
-use Rattle.beating.specs.Selecting.{position_of, Fits, selected}
-use Rattle.apl_model.specs.Whole.{Answer, rank, is_text}
-use Rattle.apl_model.specs.Subscript.{is_text_position, is_place, in_axis, in_axes, axes_of, positions_shape, place_of, positions_index, subscript}
-use Rattle.pending_laws.specs.Subscripts.{AreInProgression, KeepsPositions, IsItemAt, AreItems, KeepsItems, SubscriptIsSelected}
+use Rattle.beating.specs.Selecting.{position_of}
+use Rattle.apl_model.specs.Whole.{Answer, rank}
+use Rattle.apl_model.specs.Subscript.{is_text_position, is_place, in_axis, in_axes, axes_of, positions_shape, place_of, positions_index}
+use Rattle.pending_laws.specs.Subscripts.{AreInProgression, IsItemAt, AreItems, SubscriptIsSelected}
 use Rattle.pending_laws.proofs.AnswerLemmas.{passes_if, passes_limit, le-test, lt-test, gathered-same}
 
 -- ---- one position
@@ -118,9 +115,10 @@ items-tests : (o : ℤ) (ns : List ℕ) (ps : List (Option Array)) (items : List
     (list_any is_text_position ps ≡ false) × (in_axes o ns ps ≡ true)
 items-tests o [] [] [] h = (refl, refl)
 items-tests o (n ∷ ns) (p ∷ ps) (i ∷ items) h =
-    let rest = items-tests o ns ps items h.1 in
-    (ap (λ (t : Bool). t || list_any is_text_position ps) (item-number o n p i h.0) ∙ rest.0,
-    ap (λ (t : Bool). t && in_axes o ns ps) (item-axis o n p i h.0) ∙ rest.1)
+    let rest = items-tests o ns ps items h.1 in (
+      ap (λ (t : Bool). t || list_any is_text_position ps) (item-number o n p i h.0) ∙ rest.0,
+      ap (λ (t : Bool). t && in_axes o ns ps) (item-axis o n p i h.0) ∙ rest.1,
+    )
 items-tests o [] [] (i ∷ items) h = absurd h
 items-tests o [] (p ∷ ps) items h = absurd h
 items-tests o (n ∷ ns) [] items h = absurd h

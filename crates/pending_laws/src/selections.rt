@@ -1,5 +1,5 @@
 //! Selections of the language are selections of an array.
-ghost use Rattle.pending_laws.specs.Selections.{ReversedIsSelected, ReversedScalarStays, FlippedIsSelected, TransposedIsSelected, TakenIsSelected, DroppedIsSelected};
+ghost use Rattle.pending_laws.specs.Selections.{ReversedIsSelected, ReversedScalarStays, FlippedIsSelected, TransposedIsSelected, TakenScalarExtends, TakenFromItself, TakenIsSelected, DroppedIsSelected};
 ghost use Rattle.pending_laws.specs.Subscripts.{SubscriptIsSelected};
 
 /// `⌽` and `⊖` of one argument turn round the axis that is named, and leave a scalar as it is.
@@ -14,8 +14,11 @@ pub fn transposes_select()
     ensures two { TransposedIsSelected }
 {}
 
-/// `↑` of counts that fit takes them, and `↓` drops its counts, each cut to the length of its axis.
+/// `↑` of counts that fit takes them, and `↓` drops its counts, each capped at the length of its axis. A scalar extends
+/// before to as many axes of length 1 as there are counts.
 pub fn takes_select()
+    ensures scalar { TakenScalarExtends }
+    ensures itself { TakenFromItself }
     ensures take { TakenIsSelected }
     ensures drop { DroppedIsSelected }
 {}
