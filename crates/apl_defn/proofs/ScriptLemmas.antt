@@ -9,7 +9,7 @@ use Rattle.apl_model.proofs.Accepted.{part_from}
 use Rattle.apl_model.specs.Mirror.{item_of}
 use Rattle.apl_model.proofs.Rows.{first_in_reading, first_in_lines}
 use Rattle.apl_model.specs.Lines.{lines_of}
-use Rattle.apl_model.specs.Refusal.{refusal, IsReadingRefusal, never_closed, AreClasses, IsLineRefusal, double_name, name_class, deep, IsRefusal, IsFirst, IsAccepted}
+use Rattle.apl_model.specs.Refusal.{refusal, IsReadingRefusal, never_closed, AreClasses, IsLineRefusal, double_name, name_class, deep, IsRefusal, IsFirst, IsAccepted, IsFirstIfAny}
 use Rattle.apl_model.specs.Script.{Part, alone, defined, parts, opens, heading_of, IsScript}
 use Rattle.apl_model.specs.Tokens.{IsRead}
 use Rattle.apl_model.specs.Tree.{Script}
@@ -17,11 +17,10 @@ use Rattle.apl_model.specs.declared.scripts.Header.{Header}
 use Rattle.apl_model.specs.declared.tokens.Heading.{Heading}
 use Rattle.apl_model.specs.declared.tokens.Line.{Line}
 use Rattle.apl_model.specs.declared.tokens.Token.{Token}
-use Rattle.apl_read.specs.Refusals.{IsFirstIfAny}
-use Rattle.apl_read.specs.Answer.{IsRefusedFirst}
-use Rattle.apl_read.specs.declared.faults.ReadFault.{ReadFault}
-use Rattle.apl_read.specs.declared.faults.ReadFault.TheVariants as fault
-use Rattle.apl_tree.specs.Outcome.{IfRefused}
+use Rattle.apl_model.specs.ReadFaults.{IsRefusedFirst}
+use Rattle.apl_model.specs.declared.faults.ReadFault.{ReadFault}
+use Rattle.apl_model.specs.declared.faults.ReadFault.TheVariants as fault
+use Rattle.apl_model.specs.ReadFaults.{IfRefused}
 use Rattle.apl_read.proofs.FirstRefusal.{reading_phase}
 use Rattle.apl_defn.proofs.OrderLemmas.{first_form, first_use, no_use, script_is}
 use Rattle.apl_defn.proofs.PhaseLemmas.{open_form}

@@ -1,7 +1,7 @@
 ghost use Rattle.std.specs.Prelude.{◌≡◌, ◌≤◌, ◌^◌, length, IfOk};
 ghost use Rattle.apl_model.specs.Mirror.{script_of};
 ghost use Rattle.apl_model.specs.Refusal.{IsAccepted, IsFirst, IsLineRefusal, IsRefusal};
-ghost use Rattle.apl_tree.specs.Outcome.{IfRefused};
+ghost use Rattle.apl_model.specs.ReadFaults.{IfRefused};
 ghost use Rattle.apl_defn.specs.Reading.{AreReadLines, AreAccepted};
 
 use crate::classes::classes_from;
@@ -9,8 +9,8 @@ use crate::copies::copy_lines;
 use crate::forms::read_forms;
 use crate::uses::read_uses;
 use apl_base::{Cause, Refusal};
-use apl_model::{Lines, Script};
-use apl_read::{ReadFault, tokens};
+use apl_model::{Lines, ReadFault, Script};
+use apl_read::tokens;
 use apl_tree::Lookup;
 use sqlite_items::Items;
 use std::alloc::Global;

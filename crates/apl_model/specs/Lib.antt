@@ -13,6 +13,7 @@ pub mod Made
 pub mod Mirror
 pub mod Printed
 pub mod Product
+pub mod ReadFaults
 pub mod Refusal
 pub mod Script
 pub mod Spelling

@@ -3,6 +3,7 @@
 #![tactic(auto)]
 
 mod examples;
+mod faults;
 mod functions;
 mod laws;
 mod outlines;
@@ -15,6 +16,7 @@ pub use examples::{
     refusals_of_bytes_and_characters, refusals_of_definitions, refusals_of_lines,
     tokens_of_ten_lines, trees_of_fifteen_lines,
 };
+pub use faults::ReadFault;
 pub use functions::{Axis, DyaFn, MonFn};
 pub use laws::{
     accepted_exactly, accepted_items, one_body_line, one_command, one_expression,

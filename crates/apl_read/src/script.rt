@@ -2,15 +2,14 @@ ghost use Rattle.std.specs.Prelude.{◌≡◌, None, OnOk, IfOk, IfErr};
 ghost use Rattle.std.specs.List.{filter_map};
 ghost use Rattle.apl_model.specs.Lines.{lines_of};
 ghost use Rattle.apl_read.specs.Sums.{sum_of, sum_of_line, refusal_of, sums_of, first_not_built};
-ghost use Rattle.apl_read.specs.Answer.{IsRefusedAs};
+ghost use Rattle.apl_model.specs.ReadFaults.{IsRefusedAs};
 
 use crate::columns::refuse;
-use crate::faults::ReadFault;
 use crate::script_lines::characters_of;
 use crate::script_tokens::tokens;
 use crate::sums::{Sum, read_sum};
 use apl_base::{Cause, NoMemory};
-use apl_model::{Line, Text};
+use apl_model::{Line, ReadFault, Text};
 use std::alloc::Global;
 
 /// The most bytes that a script may have.
