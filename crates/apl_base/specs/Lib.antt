@@ -1,4 +1,5 @@
 pub mod Array
+pub mod Elements
 pub mod Examples
 pub mod Interval
 pub mod Number

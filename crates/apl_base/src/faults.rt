@@ -47,13 +47,17 @@ pub enum ErrorKind {
     Depth,
 }
 
-/// Why a script is refused before anything of it is run.
+/// The most bytes of a script: 2^20. A longer one is refused as too long.
+pub const MOST_BYTES: usize = 1 << 20;
+
+/// Why a script is refused before anything of it is run. Of two refusals at one place the cause that stands first
+/// is answered.
 #[derive(Clone, Copy, Debug, PartialEq, Eq)]
 pub enum Cause {
     TooLong,
     Utf8,
-    Character,
     LineLong,
+    Character,
     Number,
     OpenText,
     Header,

@@ -16,8 +16,8 @@ pub use examples::{
     arithmetic_examples, character_examples, identity_examples, interval_examples,
     monadic_examples, truth_examples,
 };
-pub use faults::{Cause, ErrorKind, NoMemory, Place, Refusal, TooLarge};
-pub use laws::{row_major_laws, shape_examples};
+pub use faults::{Cause, ErrorKind, MOST_BYTES, NoMemory, Place, Refusal, TooLarge};
+pub use laws::{defined_laws, index_laws, row_major_laws, shape_examples, tabulation_laws};
 pub use names::Name;
 pub use rows::{Dya, Mon};
 pub use selection_examples::{

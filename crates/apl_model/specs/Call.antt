@@ -1,92 +1,53 @@
--- Calls, their lines and their turns, for any kind of statement that has a meaning.
-use Rattle.std.specs.Prelude.{ℕ, zero, suc, ℤ, ◌+ℤ◌, pos, negsuc, List, [], ◌∷◌, ◌++◌, map, slice_get, Option, Some, None}
+-- Calls, their lines and their turns, for any kind of statement that has a meaning, any values and any states.
+use Rattle.std.specs.Prelude.{ℕ, zero, suc, ℤ, ◌+ℤ◌, pos, negsuc, List, map, slice_get, Option, Some, None}
 use Rattle.std.specs.List.{find}
-use Rattle.apl_base.specs.declared.cells.Kind.TheVariants.{Num}
 use Rattle.apl_base.specs.declared.faults.ErrorKind.TheVariants as error
 use Rattle.apl_base.specs.declared.faults.Place.{Place}
-use Rattle.apl_base.specs.Array.{Array}
+use Rattle.apl_model.specs.declared.scripts.Command.{Command}
 use Rattle.apl_model.specs.declared.scripts.Header.{Header}
-use Rattle.apl_model.specs.Environment.{Environment, Bindings, is_same_name, look_up}
-use Rattle.apl_model.specs.Evaluation.{State, Outcome, done, fails, spent, and_then, Calls, Flow, onwards, to_line}
-use Rattle.apl_model.specs.Whole.{scalar}
+use Rattle.apl_model.specs.Environment.{is_same_name}
+use Rattle.apl_model.specs.Order.{CallsOf}
+use Rattle.apl_model.specs.Outcome.{Outcome, done, fails, spent, and_then, Flow, onwards, to_line}
 
 -- a line of a function's body: the number of its line in the script, its label, and what it does
-pub record RoutineLine (S : Type 0) : Type 0 where
+pub record RoutineLine (T : Type 0) : Type 0 where
   pub line : ℕ
   pub label : Option (List ℕ)
-  pub statement : S
+  pub statement : T
 
 -- a function: its header and the lines of its body
-pub record Routine (S : Type 0) : Type 0 where
+pub record Routine (T : Type 0) : Type 0 where
   pub header : Header
-  pub body : List (RoutineLine S)
+  pub body : List (RoutineLine T)
 
--- ---- turns
+-- the labels of a body, line by line
+abbrev pub labels_of : {T : Type 0} → List (RoutineLine T) → List (Option (List ℕ))
+labels_of body = map (λ l. l.label) body
 
--- a statement begins: it takes a turn
-abbrev pub with_turn : ℕ → State → State
-with_turn left s = record s { turns = left; begun = suc s.begun }
-
-abbrev pub with_ended : ℕ → ℕ → State → State
-with_ended line number s = record s { ended = s.ended ++ record { line = line; begun = number } ∷ [] }
-
--- a statement that ended, well or by an error, is entered; one that a spent budget cut off is not
-abbrev pub entered : {A : Type 0} → ℕ → ℕ → Outcome A → Outcome A
-entered line number (done a s) = done a (with_ended line number s)
-entered line number (fails kind place s) = fails kind place (with_ended line number s)
-entered line number (spent s) = spent s
-
--- A turn is one statement begun, also an empty one. With no turns left it is not begun.
-abbrev pub turn : {A : Type 0} → ℕ → ℕ → (State → Outcome A) → State → Outcome A
-turn line zero act s = spent s
-turn line (suc left) act s = entered line (suc s.begun) (act (with_turn left s))
-
-abbrev pub on_turn : {A : Type 0} → ℕ → (State → Outcome A) → State → Outcome A
-on_turn line act s = turn line s.turns act s
-
--- ---- frames
-
-abbrev pub unset : List ℕ → List ℕ × Option Array
-unset name = (name, None)
-
--- a name that the header may have, with the argument that was given
-abbrev pub argument_binding : Option (List ℕ) → Option Array → Bindings
-argument_binding None a = []
-argument_binding (Some name) a = (name, a) ∷ []
-
--- each label with the number of its line
-abbrev pub label_bindings : {S : Type 0} → ℕ → List (RoutineLine S) → Bindings
-label_bindings k [] = []
-label_bindings k (l ∷ ls) = argument_binding l.label (Some (scalar Num (pos k))) ++ label_bindings (suc k) ls
-
--- the names that a call declares: the result and the locals unset, the arguments with their values, the labels
-abbrev pub frame_of : {S : Type 0} → Routine S → Option Array → Option Array → Bindings
-frame_of r left right =
-    argument_binding r.header.result None
-    ++ argument_binding r.header.left left
-    ++ argument_binding r.header.right right
-    ++ map unset r.header.locals
-    ++ label_bindings 1 r.body
-
-abbrev pub with_frame : Bindings → State → State
-with_frame frame s = record s { variables = record s.variables { frames = frame ∷ s.variables.frames } }
-
-abbrev pub innermost_gone : List Bindings → List Bindings
-innermost_gone [] = []
-innermost_gone (f ∷ fs) = fs
-
-abbrev pub without_frame : State → State
-without_frame s = record s { variables = record s.variables { frames = innermost_gone s.variables.frames } }
-
--- the value of the result's name, where the header has one
-abbrev pub result_in : Environment → Option (List ℕ) → Option Array
-result_in e None = None
-result_in e (Some name) = look_up e name
-
--- ---- lines and calls
+-- what turns, calls and commands do to a state of a type S, with values of a type V
+pub record Steps (S V : Type 0) : Type 0 where
+  -- how many statements may still begin, and how many have
+  pub turns : S → ℕ
+  pub begun : S → ℕ
+  -- a statement begins, and so many more may
+  pub begin : ℕ → S → S
+  -- a statement ends: its line in the script, and its number among the statements begun
+  pub end : ℕ → ℕ → S → S
+  -- a call begins: the function's header and labels, its left and its right argument
+  pub enter : Header → List (Option (List ℕ)) → Option V → Option V → S → S
+  -- the value of the result's name, where the header has one
+  pub result : Option (List ℕ) → S → Option V
+  -- a call ends
+  pub leave : S → S
+  -- all calls end
+  pub unwind : S → S
+  -- a text is printed
+  pub tell : List ℕ → S → S
+  -- a command; the names are those that head a definition
+  pub obey : List (List ℕ) → Command → S → S
 
 -- the line of this number, counted from 1
-abbrev pub line_at : {S : Type 0} → List (RoutineLine S) → ℤ → Option (RoutineLine S)
+abbrev pub line_at : {T : Type 0} → List (RoutineLine T) → ℤ → Option (RoutineLine T)
 line_at body (pos zero) = None
 line_at body (pos (suc k)) = slice_get body k
 line_at body (negsuc k) = None
@@ -96,39 +57,54 @@ abbrev pub next_line : ℤ → Flow → ℤ
 next_line k onwards = k +ℤ pos 1
 next_line k (to_line n) = n
 
-module _ (S : Type 0) (meaning : Calls → S → State → Outcome Flow) where
+-- the function of this name, if it is one
+abbrev pub routine_of : {T : Type 0} → List (Routine T) → List ℕ → Option (Routine T)
+routine_of routines f = find (λ r. is_same_name r.header.f f) routines
+
+module _ {S V : Type 0} (M : Steps S V) where
+  -- a statement that ended, well or by an error, is entered; one that a spent budget cut off is not
+  abbrev pub entered : {A : Type 0} → ℕ → ℕ → Outcome S A → Outcome S A
+  entered line number (done a s) = done a (M.end line number s)
+  entered line number (fails kind place s) = fails kind place (M.end line number s)
+  entered line number (spent s) = spent s
+
+  -- A turn is one statement begun, also an empty one. With no turns left it is not begun.
+  abbrev pub turn : {A : Type 0} → ℕ → ℕ → (S → Outcome S A) → S → Outcome S A
+  turn line zero act s = spent s
+  turn line (suc left) act s = entered line (suc (M.begun s)) (act (M.begin left s))
+
+  abbrev pub on_turn : {A : Type 0} → ℕ → (S → Outcome S A) → S → Outcome S A
+  on_turn line act s = turn line (M.turns s) act s
+
+module _ {S V T : Type 0} (M : Steps S V) (meaning : CallsOf S V → T → S → Outcome S Flow) where
   -- a line, where there is one, takes a turn and says which line is next; a number that is no line ends the call
-  abbrev pub run_line : Calls → Option (RoutineLine S) → State → (Flow → State → Outcome (Unit {0})) → Outcome (Unit {0})
+  abbrev pub run_line : CallsOf S V → Option (RoutineLine T) → S → (Flow → S → Outcome S (Unit {0})) → Outcome S (Unit {0})
   run_line calls None s next = done tt s
-  run_line calls (Some l) s next = and_then (on_turn l.line (meaning calls l.statement) s) next
+  run_line calls (Some l) s next = and_then (on_turn M l.line (meaning calls l.statement) s) next
 
   -- The lines of a body from number k on. As each takes a turn, there are at most so many of them as turns are
   -- left.
-  abbrev pub run_lines : Calls → List (RoutineLine S) → ℕ → ℤ → State → Outcome (Unit {0})
+  abbrev pub run_lines : CallsOf S V → List (RoutineLine T) → ℕ → ℤ → S → Outcome S (Unit {0})
   run_lines calls body zero k s = run_line calls (line_at body k) s (λ flow t. spent t)
   run_lines calls body (suc n) k s = run_line calls (line_at body k) s (λ flow t. run_lines calls body n (next_line k flow) t)
 
   -- A call makes its frame, runs the body from line 1, and gives the value that the result's name then has.
-  abbrev pub run_routine : Calls → Routine S → Option Array → Option Array → State → Outcome (Option Array)
+  abbrev pub run_routine : CallsOf S V → Routine T → Option V → Option V → S → Outcome S (Option V)
   run_routine calls r left right s =
-      let inside = with_frame (frame_of r left right) s in
-      and_then (run_lines calls r.body s.turns (pos 1) inside) (λ _ t. done (result_in t.variables r.header.result) (without_frame t))
-
-  -- the function of this name, if it is one
-  abbrev pub routine_of : List (Routine S) → List ℕ → Option (Routine S)
-  routine_of routines f = find (λ r. is_same_name r.header.f f) routines
+      let inside = M.enter r.header (labels_of r.body) left right s in
+      and_then (run_lines calls r.body (M.turns s) (pos 1) inside) (λ _ t. done (M.result r.header.result t) (M.leave t))
 
   -- a name that heads no definition has no value (it stands in no accepted script)
-  abbrev pub run_found : Calls → Option (Routine S) → Place → Option Array → Option Array → State → Outcome (Option Array)
+  abbrev pub run_found : CallsOf S V → Option (Routine T) → Place → Option V → Option V → S → Outcome S (Option V)
   run_found calls None place left right s = fails error.Value place s
   run_found calls (Some r) place left right s = run_routine calls r left right s
 
   -- what a call means while so many more calls may be pending; beyond them it is a DEPTH ERROR at its name
-  abbrev pub call_within : List (Routine S) → ℕ → Calls
+  abbrev pub call_within : List (Routine T) → ℕ → CallsOf S V
   call_within routines zero f place left right s = fails error.Depth place s
   call_within routines (suc n) f place left right s =
       run_found (call_within routines n) (routine_of routines f) place left right s
 
   -- 256 calls may be pending
-  abbrev pub calls_of : List (Routine S) → Calls
+  abbrev pub calls_of : List (Routine T) → CallsOf S V
   calls_of routines = call_within routines 256

@@ -1,15 +1,18 @@
 -- Immediate evaluation: what a script prints, how it ends, and the variables that it leaves.
 use Rattle.std.specs.Prelude.{ℕ, suc, ◌==◌, nat_lt, ℤ, Bool, true, false, List, [], ◌∷◌, ◌++◌, map, Option, Some, None, encode_utf8_all, if◌then◌else◌}
-use Rattle.std.specs.List.{find, join_by, filter_map, fold, position}
+use Rattle.std.specs.List.{find, join_by, filter_map, position}
 use Rattle.std.specs.Option.{option_map, unwrap_or}
 use Rattle.apl_base.specs.declared.faults.ErrorKind.{ErrorKind}
 use Rattle.apl_base.specs.declared.faults.Place.{Place}
+use Rattle.apl_base.specs.Array.{Array}
 use Rattle.apl_model.specs.declared.scripts.Command.{Command}
 use Rattle.apl_model.specs.declared.scripts.Command.TheVariants.{Vars, Fns, Erase, Origin}
 use Rattle.apl_model.specs.declared.tokens.Line.{Line}
-use Rattle.apl_model.specs.Call.{Routine, RoutineLine, calls_of, on_turn}
-use Rattle.apl_model.specs.Environment.{Bindings, no_variables, set_names, unset_global}
-use Rattle.apl_model.specs.Evaluation.{State, Ended, Outcome, done, fails, spent, Flow, statement_flow, with_printed}
+use Rattle.apl_model.specs.Call.{Routine, RoutineLine, Steps, calls_of, on_turn}
+use Rattle.apl_model.specs.Environment.{Bindings, no_variables, set_names, erased, without_frames, with_origin}
+use Rattle.apl_model.specs.Evaluation.{State, Ended, statement_flow, with_printed, with_variables}
+use Rattle.apl_model.specs.Frames.{with_turn, with_ended, with_call, without_call, result_in}
+use Rattle.apl_model.specs.Outcome.{Outcome, done, fails, spent, Flow}
 use Rattle.apl_model.specs.Printed.{newline, blank, body_prefix, plain_prefix, report_text}
 use Rattle.apl_model.specs.Tree.{Script, Item, Definition, BodyLine, Statement, statement_item, command_item, definition_item}
 
@@ -76,9 +79,9 @@ report script kind place =
 -- ---- items
 
 -- an item as it is run: a statement and its line, or a command
-pub data Step (S : Type 0) : Type 0 where
-  statement_step : ℕ → S → Step S
-  command_step : Command → Step S
+pub data Step (T : Type 0) : Type 0 where
+  statement_step : ℕ → T → Step T
+  command_step : Command → Step T
 
 -- a definition does nothing where it stands
 abbrev pub step_of : Item → Option (Step Statement)
@@ -86,63 +89,77 @@ step_of (statement_item line s) = Some (statement_step line s)
 step_of (command_item line c) = Some (command_step c)
 step_of (definition_item d) = None
 
-abbrev pub with_globals : Bindings → State → State
-with_globals globals s = record s { variables = record s.variables { globals = globals } }
-
--- what a command does; `functions` are the names that head a definition
-abbrev pub obeyed : List (List ℕ) → Command → State → State
-obeyed functions Vars s = with_printed (names_line (set_names s.variables.globals)) s
-obeyed functions Fns s = with_printed (names_line functions) s
-obeyed functions (Erase names) s = with_globals (fold unset_global s.variables.globals names) s
-obeyed functions (Origin o) s = record s { variables = record s.variables { origin = o } }
-
--- an error or a spent budget unwinds all frames
-abbrev pub unwound : State → State
-unwound s = record s { variables = record s.variables { frames = [] } }
-
 -- how a run ends: with no error reported, with one at least, or with no turn left
 pub data Ending : Type 0 where
   well : Ending
   reported : Ending
   out_of_turns : Ending
 
-pub record Run : Type 0 where
+pub record Run (S : Type 0) : Type 0 where
   pub ending : Ending
-  pub state : State
+  pub state : S
 
-module _ (S : Type 0) (flow_of : S → State → Outcome Flow) (functions : List (List ℕ)) (report_of : ErrorKind → Place → List ℕ) where
+module _ {S V T : Type 0} (M : Steps S V) (flow_of : T → S → Outcome S Flow) (functions : List (List ℕ)) (report_of : ErrorKind → Place → List ℕ) where
   -- after a statement: an error prints its report, and the script goes on; a spent budget ends it
-  abbrev pub after_statement : {A : Type 0} → Ending → Outcome A → (Ending → State → Run) → Run
+  abbrev pub after_statement : {A : Type 0} → Ending → Outcome S A → (Ending → S → Run S) → Run S
   after_statement ending (done a s) next = next ending s
-  after_statement ending (fails kind place s) next = next reported (with_printed (report_of kind place) (unwound s))
-  after_statement ending (spent s) next = record { ending = out_of_turns; state = unwound s }
+  after_statement ending (fails kind place s) next = next reported (M.tell (report_of kind place) (M.unwind s))
+  after_statement ending (spent s) next = record { ending = out_of_turns; state = M.unwind s }
 
   -- Statements and commands in order. Outside a definition a branch has no further effect; commands take no turn.
-  abbrev pub run_steps : List (Step S) → Ending → State → Run
+  abbrev pub run_steps : List (Step T) → Ending → S → Run S
   run_steps [] ending s = record { ending = ending; state = s }
   run_steps (statement_step line st ∷ steps) ending s =
-      after_statement ending (on_turn line (flow_of st) s) (run_steps steps)
-  run_steps (command_step c ∷ steps) ending s = run_steps steps ending (obeyed functions c s)
+      after_statement ending (on_turn M line (flow_of st) s) (run_steps steps)
+  run_steps (command_step c ∷ steps) ending s = run_steps steps ending (M.obey functions c s)
+
+-- ---- the run of a script
+
+-- what a command does; `functions` are the names that head a definition
+abbrev pub obeyed : List (List ℕ) → Command → State → State
+obeyed functions Vars s = with_printed (names_line (set_names s.variables.globals)) s
+obeyed functions Fns s = with_printed (names_line functions) s
+obeyed functions (Erase names) s = with_variables (erased names s.variables) s
+obeyed functions (Origin o) s = with_variables (with_origin o s.variables) s
+
+-- an error or a spent budget unwinds all frames
+abbrev pub unwound : State → State
+unwound s = with_variables (without_frames s.variables) s
+
+-- what turns, calls and commands do to the state of a run
+abbrev pub of_states : Steps State Array
+of_states = record {
+  turns = λ s. s.turns;
+  begun = λ s. s.begun;
+  begin = with_turn;
+  end = with_ended;
+  enter = with_call;
+  result = λ name s. result_in s.variables name;
+  leave = without_call;
+  unwind = unwound;
+  tell = with_printed;
+  obey = obeyed;
+}
 
 -- no variables, nothing printed, and n turns
 abbrev pub beginning : ℕ → State
 beginning n = record { variables = no_variables; printed = []; turns = n; begun = 0; ended = [] }
 
 -- the run of these items of a script, with n turns
-abbrev pub run_items : Script → List Item → ℕ → Run
+abbrev pub run_items : Script → List Item → ℕ → Run State
 run_items script items n =
     let definitions = definitions_of script.items in
-    run_steps Statement (statement_flow (calls_of Statement statement_flow (map routine definitions)))
+    run_steps of_states (statement_flow (calls_of of_states statement_flow (map routine definitions)))
     (map (λ d. d.header.f) definitions) (report script) (filter_map step_of items) well (beginning n)
 
 pub record Immediate : Type 0 where
   pub bytes : List ℕ
   pub ending : Ending
-  pub globals : Bindings
+  pub globals : Bindings Array
   pub origin : ℤ
   pub ended : List Ended
 
-abbrev pub told : Run → Immediate
+abbrev pub told : Run State → Immediate
 told r = record { bytes = encode_utf8_all r.state.printed; ending = r.ending; globals = r.state.variables.globals; origin = r.state.variables.origin; ended = r.state.ended }
 
 -- immediate evaluation of a script with n turns

@@ -3,6 +3,7 @@ pub mod Characters
 pub mod Environment
 pub mod Evaluation
 pub mod Examples
+pub mod Frames
 pub mod Grammar
 pub mod Immediate
 pub mod Items
@@ -11,6 +12,8 @@ pub mod Lift
 pub mod Lines
 pub mod Made
 pub mod Mirror
+pub mod Order
+pub mod Outcome
 pub mod Printed
 pub mod Product
 pub mod ReadFaults

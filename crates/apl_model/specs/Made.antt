@@ -1,5 +1,6 @@
 -- The functions that are no scalar functions: each gives an array, or the first of its errors, from whole
--- arrays and the origin o. Errors are tried in the order Rank, Length, Domain, Index, Limit.
+-- arrays and the origin o. Errors are tried in the order Rank, Length, Domain, Index, Limit; in `A⊤B` Limit is tried
+-- before Domain (own).
 -- A condition that speaks of values holds only where these are numbers; an argument without elements is taken
 -- as numbers where its kind would be a DOMAIN ERROR.
 use Rattle.std.specs.Prelude.{ℕ, suc, ◌+◌, ◌-◌, ◌%◌, ◌==◌, nat_le, nat_lt, ℤ, pos, negsuc, ◌+ℤ◌, ◌-ℤ◌, ◌*ℤ◌, int_lt, int_le, unsigned_abs, Bool, true, false, not, ◌&&◌, ◌||◌, List, [], ◌∷◌, ◌++◌, map, reverse, length, replicate, take, remove, slice_index, slice_index_or, slice_set, Option, Some, None, Ok, nat_eq, if◌then◌else◌}
@@ -39,7 +40,8 @@ abbrev pub are_bits : Array → Bool
 are_bits a = not (is_text a) && list_all is_bit a.cells
 
 -- an array is made on an axis, counted from 0. An axis [K] counts from the origin; a K that is none is a RANK
--- ERROR. Along its last or first axis a scalar stays as it is, there being none.
+-- ERROR, as each K is for a scalar. For a scalar, which has no axis, the last and the first axis are 0: reversed,
+-- rotated or reduced it stays as it is, compressed or expanded it extends.
 abbrev pub on_axis : ℤ → Axis → ℕ → (ℕ → Answer) → Answer
 on_axis o Last r make = make (r - 1)
 on_axis o First r make = make 0

@@ -16,6 +16,12 @@ three_fit = omega arith
 pub four_fit : 4 ≤ 2 ^ 40
 four_fit = omega arith
 
+pub five_fit : 5 ≤ 2 ^ 40
+five_fit = omega arith
+
+pub eight_fit : 8 ≤ 2 ^ 40
+eight_fit = omega arith
+
 pub one_is_some : 0 < 1
 one_is_some = omega arith
 
@@ -27,6 +33,12 @@ three_are_some = omega arith
 
 pub four_are_some : 0 < 4
 four_are_some = omega arith
+
+pub five_are_some : 0 < 5
+five_are_some = omega arith
+
+pub eight_are_some : 0 < 8
+eight_are_some = omega arith
 
 pub from_0 : (pos 0 ≡ pos 0) ⊎ (pos 0 ≡ pos 1)
 from_0 = inl refl

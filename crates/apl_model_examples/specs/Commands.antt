@@ -32,3 +32,17 @@ an_unset_name_is_passed_over = script ("A←1" ∷ ")ERASE B A A" ∷ ")VARS" �
     ∷ command_item 3 Vars
     ∷ statement_item 4 (expression (name "A" (at 4 1)))
     ∷ [])
+
+-- names are ordered by the first byte in which they differ, and one that another begins with stands before it
+abbrev pub names_differ_at_their_first_differing_byte : Script
+names_differ_at_their_first_differing_byte = script ("A←AB←BA←1"
+    ∷ "⍙←∆←a←Z9←Z_←2" ∷ ")VARS" ∷ "∇GF" ∷ "∇" ∷ "∇FG" ∷ "∇" ∷ ")FNS" ∷ [])
+    (statement_item 1 (expression (sets "A" (sets "AB" (sets "BA" (number 1 (at 1 9)) (at 1 6)) (at 1 3)) (at 1 1)))
+    ∷ statement_item 2 (expression
+    (sets "⍙"
+    (sets "∆" (sets "a" (sets "Z9" (sets "Z_" (number 2 (at 2 13)) (at 2 10)) (at 2 7)) (at 2 5)) (at 2 3)) (at 2 1)))
+    ∷ command_item 3 Vars
+    ∷ definition 4 5 (header None None "GF" None []) []
+    ∷ definition 6 7 (header None None "FG" None []) []
+    ∷ command_item 8 Fns
+    ∷ [])

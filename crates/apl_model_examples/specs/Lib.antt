@@ -1,8 +1,14 @@
 pub mod Calls
 pub mod Commands
 pub mod Errors
+pub mod Extension
+pub mod Frames
+pub mod Kinds
+pub mod Layouts
 pub mod Made
+pub mod Order
 pub mod Origins
+pub mod Precedence
 pub mod Products
 pub mod Scalars
 pub mod Selections

@@ -79,3 +79,26 @@ sales_by_quarter = script ("⍝ sales by quarter" ∷ "S←3 4⍴⍳12" ∷ "+/S
     ∷ statement_item 6 (expression (monadic (one.Reverse axis.Last) (name "S" (at 6 2)) (at 6 1)))
     ∷ statement_item 7 (expression (dyadic (two.Compress (axis.Numbered (pos 1))) (numbers (1 ∷ 0 ∷ 1 ∷ []) (at 7 1)) (name "S" (at 7 10)) (at 7 6)))
     ∷ [])
+
+-- reduced along the middle axis; rows go with columns; an inner product over no element is the identity
+abbrev pub an_axis_in_the_middle : Script
+an_axis_in_the_middle = script ("+/[2]2 2 2⍴⍳8" ∷ "(2 2⍴⍳4)-.×1 2" ∷ "1 2∘.-1 2 3" ∷ "(⍳0)×.+5" ∷ [])
+    (statement_item 1 (expression
+    (reduction dya.Add (axis.Numbered (pos 2))
+    (dyadic two.Reshape
+    (numbers (2 ∷ 2 ∷ 2 ∷ []) (at 1 6))
+    (monadic one.Iota (number 8 (at 1 13)) (at 1 12)) (at 1 11)) (at 1 2)))
+    ∷ statement_item 2 (expression
+    (inner_product dya.Sub dya.Mul
+    (parenthesis
+    (dyadic two.Reshape
+    (numbers (2 ∷ 2 ∷ []) (at 2 2))
+    (monadic one.Iota (number 4 (at 2 7)) (at 2 6)) (at 2 5)) (at 2 1))
+    (numbers (1 ∷ 2 ∷ []) (at 2 12)) (at 2 10)))
+    ∷ statement_item 3 (expression
+    (outer_product dya.Sub (numbers (1 ∷ 2 ∷ []) (at 3 1)) (numbers (1 ∷ 2 ∷ 3 ∷ []) (at 3 7)) (at 3 4)))
+    ∷ statement_item 4 (expression
+    (inner_product dya.Mul dya.Add
+    (parenthesis (monadic one.Iota (number 0 (at 4 3)) (at 4 2)) (at 4 1))
+    (number 5 (at 4 8)) (at 4 6)))
+    ∷ [])

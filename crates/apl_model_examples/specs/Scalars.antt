@@ -7,13 +7,11 @@ use Rattle.apl_model.specs.declared.functions.MonFn.TheVariants as one
 use Rattle.apl_model.specs.Tree.{Script, parenthesis, monadic, dyadic, given, expression, statement_item}
 use Rattle.apl_model_examples.specs.Words.{script, at, number, numbers, integers, negative, text, name, sets, writes, positions}
 
--- a residue has the sign of its base; zero divided by zero and zero to the power zero are one; a residue of base zero is the number
-abbrev pub a_residue_has_the_sign_of_its_base : Script
-a_residue_has_the_sign_of_its_base = script ("3|¯7 7" ∷ "0÷0" ∷ "0*0" ∷ "0|5" ∷ [])
-    (statement_item 1 (expression (dyadic (two.Scalar dya.Residue) (number 3 (at 1 1)) (integers ((negative 7) ∷ (pos 7) ∷ []) (at 1 3)) (at 1 2)))
-    ∷ statement_item 2 (expression (dyadic (two.Scalar dya.Div) (number 0 (at 2 1)) (number 0 (at 2 3)) (at 2 2)))
-    ∷ statement_item 3 (expression (dyadic (two.Scalar dya.Pow) (number 0 (at 3 1)) (number 0 (at 3 3)) (at 3 2)))
-    ∷ statement_item 4 (expression (dyadic (two.Scalar dya.Residue) (number 0 (at 4 1)) (number 5 (at 4 3)) (at 4 2)))
+-- zero divided by zero and zero to the power zero are one
+abbrev pub zero_by_zero_is_one : Script
+zero_by_zero_is_one = script ("0÷0" ∷ "0*0" ∷ [])
+    (statement_item 1 (expression (dyadic (two.Scalar dya.Div) (number 0 (at 1 1)) (number 0 (at 1 3)) (at 1 2)))
+    ∷ statement_item 2 (expression (dyadic (two.Scalar dya.Pow) (number 0 (at 2 1)) (number 0 (at 2 3)) (at 2 2)))
     ∷ [])
 
 -- characters are compared, one with each of many
@@ -100,4 +98,16 @@ unequal_ranks = script ("(2 2⍴1)+1 2" ∷ [])
     (dyadic (two.Scalar dya.Add)
     (parenthesis (dyadic two.Reshape (numbers (2 ∷ 2 ∷ []) (at 1 2)) (number 1 (at 1 6)) (at 1 5)) (at 1 1))
     (numbers (1 ∷ 2 ∷ []) (at 1 9)) (at 1 8)))
+    ∷ [])
+
+-- a residue is never negative, and lies below the magnitude of its base; of base zero it is the number
+abbrev pub a_residue_is_never_negative : Script
+a_residue_is_never_negative = script ("3|¯7 7" ∷ "¯3|¯7 7" ∷ "0|5" ∷ [])
+    (statement_item 1 (expression
+    (dyadic (two.Scalar dya.Residue) (number 3 (at 1 1)) (integers ((negative 7) ∷ (pos 7) ∷ []) (at 1 3)) (at 1 2)))
+    ∷ statement_item 2 (expression
+    (dyadic (two.Scalar dya.Residue)
+    (integers ((negative 3) ∷ []) (at 2 1))
+    (integers ((negative 7) ∷ (pos 7) ∷ []) (at 2 4)) (at 2 3)))
+    ∷ statement_item 3 (expression (dyadic (two.Scalar dya.Residue) (number 0 (at 3 1)) (number 5 (at 3 3)) (at 3 2)))
     ∷ [])

@@ -1,14 +1,17 @@
 -- The words in which the examples are written: the lines of a script, its trees, and what comes of it.
-use Rattle.std.specs.Prelude.{◌≡◌, ℕ, ℤ, pos, neg_ℤ, List, [], ◌∷◌, Option, Some, None, map, length, codes, encode_utf8_all}
+use Rattle.std.specs.Prelude.{◌≡◌, ℕ, ℤ, pos, neg_ℤ, List, [], ◌∷◌, ◌++◌, Option, Some, None, map, length, reverse, codes, encode_utf8_all}
 use Rattle.std.specs.List.{AllByRecursion}
 use Prim.Native.String.{String}
 use Rattle.apl_base.specs.declared.cells.Kind.TheVariants.{Num, Char}
 use Rattle.apl_base.specs.declared.faults.Place.{Place}
 use Rattle.apl_base.specs.Array.{Array}
 use Rattle.apl_model.specs.declared.scripts.Header.{Header}
+use Rattle.apl_base.specs.Selection.{upward}
 use Rattle.apl_model.specs.Environment.{Bindings}
+use Rattle.apl_model.specs.Evaluation.{Ended}
 use Rattle.apl_model.specs.Immediate.{immediate, Immediate, Ending}
 use Rattle.apl_model.specs.Lines.{numbered}
+use Rattle.apl_model.specs.Printed.{newline}
 use Rattle.apl_model.specs.Script.{IsScript}
 use Rattle.apl_model.specs.Tree.{Script, Item, Tree, Slot, Positions, Statement, BodyLine, constant, variable, call, assignment, indexed_assignment, no_position, position, definition_item}
 use Rattle.apl_model.specs.Whole.{scalar, vector}
@@ -105,18 +108,47 @@ number_table rows columns ns = record { kind = Num; shape = rows ∷ columns ∷
 pub record Seen : Type 0 where
   pub bytes : List ℕ
   pub ending : Ending
-  pub globals : Bindings
+  pub globals : Bindings Array
 
 abbrev pub seen : Immediate → Seen
 seen i = record { bytes = i.bytes; ending = i.ending; globals = i.globals }
 
 -- with so many turns, the script prints this text, ends so, and leaves these globals
-abbrev pub RunsWithin : ℕ → Script → String → Ending → Bindings → Type 0
+abbrev pub RunsWithin : ℕ → Script → String → Ending → Bindings Array → Type 0
 RunsWithin turns s text ending globals = seen (immediate s turns) ≡ record { bytes = encode_utf8_all (codes text); ending = ending; globals = globals }
 
 -- 1,000 turns are more than any of the examples takes
-abbrev pub Runs : Script → String → Ending → Bindings → Type 0
+abbrev pub Runs : Script → String → Ending → Bindings Array → Type 0
 Runs s text ending globals = RunsWithin 1000 s text ending globals
+
+-- ---- the whole of what comes of a script
+
+-- texts as lines that are printed
+abbrev pub printed_lines : List String → List ℕ
+printed_lines [] = []
+printed_lines (t ∷ ts) = codes t ++ newline ++ printed_lines ts
+
+-- a statement that ended: its line, and its number among the statements begun
+abbrev pub ended_statement : ℕ × ℕ → Ended
+ended_statement s = record { line = s.0; begun = s.1 }
+
+-- with so many turns, the script prints these lines, ends so, leaves these globals and the origin 1, and its
+-- statements end in this order
+abbrev pub RunsThroughWithin : ℕ → Script → List String → Ending → Bindings Array → List (ℕ × ℕ) → Type 0
+RunsThroughWithin turns s lines ending globals ended =
+    immediate s turns
+    ≡ record { bytes = encode_utf8_all (printed_lines lines); ending = ending; globals = globals; origin = pos 1; ended = map ended_statement ended }
+
+abbrev pub RunsThrough : Script → List String → Ending → Bindings Array → List (ℕ × ℕ) → Type 0
+RunsThrough s lines ending globals ended = RunsThroughWithin 1000 s lines ending globals ended
+
+-- the statements of lines 1 to n, where each line is a statement and none makes a call
+abbrev pub one_by_one : ℕ → List (ℕ × ℕ)
+one_by_one n = map (λ k. (k, k)) (upward 1 n)
+
+-- the statements of one line that began with the numbers from m up, the last begun first
+abbrev pub innermost_first : ℕ → ℕ → ℕ → List (ℕ × ℕ)
+innermost_first line m n = map (λ k. (line, k)) (reverse (upward m n))
 
 abbrev pub statements_ended : Script → ℕ
 statements_ended s = length (immediate s 1000).ended

@@ -1,8 +1,8 @@
 //! Calls and turns. The function does nothing: its contract is the examples.
-ghost use Rattle.std.specs.Prelude.{◌≡◌, ◌∷◌, []};
+ghost use Rattle.std.specs.Prelude.{◌≡◌, ◌∷◌, ◌++◌, []};
 ghost use Rattle.apl_model.specs.Immediate.{well, reported, out_of_turns};
 ghost use Rattle.apl_model_examples.specs.Calls as script;
-ghost use Rattle.apl_model_examples.specs.Words.{AreTheirTexts, Runs, RunsWithin, is_set, number_vector, statements_ended};
+ghost use Rattle.apl_model_examples.specs.Words.{AreTheirTexts, Runs, RunsThrough, RunsWithin, innermost_first, is_set, number_vector, statements_ended};
 
 /// Calls and turns: worked examples.
 pub fn examples_of_calls()
@@ -30,7 +30,9 @@ pub fn examples_of_calls()
     ensures no_turn_at_all { RunsWithin 0 script.no_turn_at_all "" out_of_turns [] }
     ensures commands_and_definitions_take_no_turn { RunsWithin 0 script.commands_and_definitions_take_no_turn "F\n" well [] }
     ensures a_branch_to_a_character { Runs script.a_branch_to_a_character "DOMAIN ERROR\n      →'A'\n      ^\n" reported [] }
-    ensures a_call_too_deep { Runs script.a_call_too_deep "DEPTH ERROR\nF[1] F\n     ^\n" reported [] }
+    ensures a_call_too_deep { RunsThrough script.a_call_too_deep
+        ("DEPTH ERROR" ∷ "F[1] F" ∷ "     ^" ∷ [])
+        reported [] (innermost_first 2 2 256 ++ (4, 1) ∷ []) }
     ensures a_call_without_a_result { Runs script.a_call_without_a_result "VALUE ERROR\n      1+F 2\n        ^\n" reported [] }
     // it begins fifteen statements
     ensures fifteen_statements_are_begun { statements_ended script.a_loop_adds_up ≡ 15 }

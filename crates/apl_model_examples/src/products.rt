@@ -2,7 +2,7 @@
 ghost use Rattle.std.specs.Prelude.{◌∷◌, []};
 ghost use Rattle.apl_model.specs.Immediate.{well, reported};
 ghost use Rattle.apl_model_examples.specs.Products as script;
-ghost use Rattle.apl_model_examples.specs.Words.{AreTheirTexts, Runs, is_set, number_table};
+ghost use Rattle.apl_model_examples.specs.Words.{AreTheirTexts, Runs, RunsThrough, is_set, number_table, one_by_one};
 
 /// Reductions and products: worked examples.
 pub fn examples_of_products()
@@ -17,6 +17,7 @@ pub fn examples_of_products()
         ∷ script.a_product_of_two_tables
         ∷ script.a_table_of_products
         ∷ script.sales_by_quarter
+        ∷ script.an_axis_in_the_middle
         ∷ []) }
     ensures a_reduction_goes_from_the_right { Runs script.a_reduction_goes_from_the_right
         "¯1000000000000000000000000000000000000\n¯2\n" well [] }
@@ -30,4 +31,7 @@ pub fn examples_of_products()
     ensures sales_by_quarter { Runs script.sales_by_quarter
         "10 26 42\n15 18 21 24\n5 6 7 8\n 4  3  2 1\n 8  7  6 5\n12 11 10 9\n1  2  3  4\n9 10 11 12\n"
         well (is_set "S" (number_table 3 4 (1 ∷ 2 ∷ 3 ∷ 4 ∷ 5 ∷ 6 ∷ 7 ∷ 8 ∷ 9 ∷ 10 ∷ 11 ∷ 12 ∷ [])) ∷ []) }
+    ensures an_axis_in_the_middle { RunsThrough script.an_axis_in_the_middle
+        (" 4  6" ∷ "12 14" ∷ "¯3 ¯5" ∷ "0 ¯1 ¯2" ∷ "1  0 ¯1" ∷ "1" ∷ [])
+        well [] (one_by_one 4) }
 {}

@@ -2,13 +2,13 @@
 ghost use Rattle.std.specs.Prelude.{◌∷◌, []};
 ghost use Rattle.apl_model.specs.Immediate.{well, reported};
 ghost use Rattle.apl_model_examples.specs.Scalars as script;
-ghost use Rattle.apl_model_examples.specs.Words.{AreTheirTexts, Runs, is_set, number_vector};
+ghost use Rattle.apl_model_examples.specs.Words.{AreTheirTexts, Runs, RunsThrough, is_set, number_vector, one_by_one};
 
 /// Scalar functions: worked examples.
 pub fn examples_of_scalars()
     // the trees are those of the lines
     ensures trees { AreTheirTexts
-        (script.a_residue_has_the_sign_of_its_base
+        (script.zero_by_zero_is_one
         ∷ script.a_text_is_compared_character_by_character
         ∷ script.a_character_has_no_sum
         ∷ script.the_greatest_factorial
@@ -20,8 +20,9 @@ pub fn examples_of_scalars()
         ∷ script.unequal_lengths
         ∷ script.unequal_lengths_of_a_name
         ∷ script.unequal_ranks
+        ∷ script.a_residue_is_never_negative
         ∷ []) }
-    ensures a_residue_has_the_sign_of_its_base { Runs script.a_residue_has_the_sign_of_its_base "2 1\n1\n1\n5\n" well [] }
+    ensures zero_by_zero_is_one { Runs script.zero_by_zero_is_one "1\n1\n" well [] }
     ensures a_text_is_compared_character_by_character { Runs script.a_text_is_compared_character_by_character "1 0\n" well [] }
     ensures a_character_has_no_sum { Runs script.a_character_has_no_sum "DOMAIN ERROR\n      'A'+1\n         ^\n" reported [] }
     ensures the_greatest_factorial { Runs script.the_greatest_factorial "263130836933693530167218012160000000\n" well [] }
@@ -40,4 +41,7 @@ pub fn examples_of_scalars()
         "LENGTH ERROR\n      1 2 3+A\n           ^\n1 2\n"
         reported (is_set "A" (number_vector (1 ∷ 2 ∷ [])) ∷ []) }
     ensures unequal_ranks { Runs script.unequal_ranks "RANK ERROR\n      (2 2⍴1)+1 2\n             ^\n" reported [] }
+    ensures a_residue_is_never_negative { RunsThrough script.a_residue_is_never_negative
+        ("2 1" ∷ "2 1" ∷ "5" ∷ [])
+        well [] (one_by_one 3) }
 {}

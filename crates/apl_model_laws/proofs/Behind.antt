@@ -6,10 +6,13 @@ use Rattle.std.proofs.lemmas.Str.{encodes-append}
 use Rattle.apl_base.specs.declared.faults.ErrorKind.{ErrorKind}
 use Rattle.apl_base.specs.declared.faults.Place.{Place}
 use Rattle.apl_base.specs.Array.{Array}
-use Rattle.apl_model.specs.Call.{Routine, RoutineLine, with_turn, entered, turn, on_turn, with_frame, frame_of, line_at, next_line, run_line, run_lines, run_found, routine_of, call_within, calls_of}
+use Rattle.apl_model.specs.Call.{Routine, RoutineLine, entered, turn, on_turn, line_at, next_line, run_line, run_lines, run_found, routine_of, call_within, calls_of, labels_of}
+use Rattle.apl_model.specs.Frames.{with_turn, with_call}
 use Rattle.apl_model.specs.Environment.{look_up}
-use Rattle.apl_model.specs.Evaluation.{State, Outcome, done, fails, spent, and_then, at_place, needed, origin_of, with_printed, replace_in, Calls, value_of, argument, positions_of, Flow, branch_by, branch_to, print_result, print_value, silently, expression_flow, statement_flow}
-use Rattle.apl_model.specs.Immediate.{Step, statement_step, command_step, obeyed, unwound, Ending, reported, well, Run, after_statement, run_steps, run_items, step_of, definitions_of, routine, report, beginning}
+use Rattle.apl_model.specs.Evaluation.{State, at_place, needed, origin_of, with_printed, replace_in, Calls, value_of, argument, positions_of, branch_by, branch_to, print_result, of_arrays, statement_flow}
+use Rattle.apl_model.specs.Order.{silently, show_value, expression_in}
+use Rattle.apl_model.specs.Outcome.{Outcome, done, fails, spent, and_then, Flow}
+use Rattle.apl_model.specs.Immediate.{of_states, Step, statement_step, command_step, obeyed, unwound, Ending, reported, well, Run, after_statement, run_steps, run_items, step_of, definitions_of, routine, report, beginning}
 use Rattle.apl_model.specs.Tree.{Tree, Slot, Positions, Statement, Item, Definition, statement_item, command_item, definition_item, constant, variable, call, parenthesis, monadic, dyadic, reduction, outer_product, inner_product, subscript, assignment, indexed_assignment, output, elided, given, no_position, position, nothing, branch, expression}
 use Rattle.apl_model.specs.Whole.{Answer, is_empty, is_text}
 use Rattle.apl_model_laws.specs.Printing.{onto, outcome_onto, PrintsBehind, CallsPrintBehind, ExpressionsPrintBehind, PositionsPrintBehind, StatementsPrintBehind, FunctionsPrintBehind, RunsBeginWithTheirPrefixes, BytesBeginWithTheirPrefixes}
@@ -17,16 +20,16 @@ use Rattle.apl_model_laws.proofs.Kept.{Leads, leads_statement, leads_call, run_k
 use Rattle.apl_model_laws.proofs.Counted.{Grows, printed_kept}
 
 -- an outcome that is another one behind a text
-pub record Behind (text : List ℕ) {A : Type 0} (o' o : Outcome A) : Type 0 where
+pub record Behind (text : List ℕ) {A : Type 0} (o' o : Outcome State A) : Type 0 where
   pub is : o' ≡ outcome_onto text o
 
-then_onto : {A B : Type 0} (text : List ℕ) (o : Outcome A) (next : A → State → Outcome B) →
+then_onto : {A B : Type 0} (text : List ℕ) (o : Outcome State A) (next : A → State → Outcome State B) →
     ((a : A) (t : State) → Behind text (next a (onto text t)) (next a t)) → and_then (outcome_onto text o) next ≡ outcome_onto text (and_then o next)
 then_onto text (done a t) next h = (h a t).is
 then_onto text (fails kind place t) next h = refl
 then_onto text (spent t) next h = refl
 
-pub behind_then : {text : List ℕ} {A B : Type 0} {o' o : Outcome A} {next : A → State → Outcome B} →
+pub behind_then : {text : List ℕ} {A B : Type 0} {o' o : Outcome State A} {next : A → State → Outcome State B} →
     Behind text o' o → ((a : A) (t : State) → Behind text (next a (onto text t)) (next a t)) → Behind text (and_then o' next) (and_then o next)
 behind_then {text} {o = o} {next = next} h n = record { is = ap (λ x. and_then x next) h.is ∙ then_onto text o next n }
 
@@ -84,7 +87,7 @@ module _ (calls : Calls) (kept : CallsPrintBehind calls) (text : List ℕ) where
   result_behind (Some a) s = print_behind text _ _ s
   result_behind None s = record { is = refl }
 
-  flow_behind : (t : Tree) (s : State) → Behind text (and_then (value_of calls t (onto text s)) print_value) (and_then (value_of calls t s) print_value)
+  flow_behind : (t : Tree) (s : State) → Behind text (and_then (value_of calls t (onto text s)) (show_value (of_arrays calls))) (and_then (value_of calls t s) (show_value (of_arrays calls)))
   flow_behind t s = behind_then (value_behind t s) (λ a u. result_behind (Some a) u)
 
   silent_behind : (t : Tree) (s : State) → Behind text (and_then (value_of calls t (onto text s)) silently) (and_then (value_of calls t s) silently)
@@ -98,7 +101,7 @@ module _ (calls : Calls) (kept : CallsPrintBehind calls) (text : List ℕ) where
       by false true = record { is = refl }
       by false false = record { is = refl }
 
-  expression_behind : (t : Tree) (s : State) → Behind text (expression_flow calls t (onto text s)) (expression_flow calls t s)
+  expression_behind : (t : Tree) (s : State) → Behind text (expression_in (of_arrays calls) t (onto text s)) (expression_in (of_arrays calls) t s)
   expression_behind (call f left right place) s =
       behind_then (argument_behind right s) (λ b t. behind_then (argument_behind left t) (λ a u. behind_then (call_behind f place a b u) result_behind))
   expression_behind (assignment name value place) s = silent_behind (assignment name value place) s
@@ -130,43 +133,43 @@ statements_print_behind calls h t text s = (statement_behind calls h text t s).i
 
 -- ---- calls
 
-pub turn_behind : {A : Type 0} (text : List ℕ) (line : ℕ) (act : State → Outcome A) → ((s : State) → Behind text (act (onto text s)) (act s)) →
-    (n : ℕ) (s : State) → Behind text (turn line n act (onto text s)) (turn line n act s)
+pub turn_behind : {A : Type 0} (text : List ℕ) (line : ℕ) (act : State → Outcome State A) → ((s : State) → Behind text (act (onto text s)) (act s)) →
+    (n : ℕ) (s : State) → Behind text (turn of_states line n act (onto text s)) (turn of_states line n act s)
 turn_behind text line act h zero s = record { is = refl }
 turn_behind {A} text line act h (suc left) s =
-    record { is = ap (λ (o : Outcome A). entered line (suc s.begun) o) (h (with_turn left s)).is ∙ ends (act (with_turn left s)) }
+    record { is = ap (λ (o : Outcome State A). entered of_states line (suc s.begun) o) (h (with_turn left s)).is ∙ ends (act (with_turn left s)) }
   where
-    ends : (o : Outcome A) → entered line (suc s.begun) (outcome_onto text o) ≡ outcome_onto text (entered line (suc s.begun) o)
+    ends : (o : Outcome State A) → entered of_states line (suc s.begun) (outcome_onto text o) ≡ outcome_onto text (entered of_states line (suc s.begun) o)
     ends (done a t) = refl
     ends (fails kind place t) = refl
     ends (spent t) = refl
 
-module _ (S : Type 0) (meaning : Calls → S → State → Outcome Flow)
+module _ (S : Type 0) (meaning : Calls → S → State → Outcome State Flow)
     (means : (calls : Calls) → CallsPrintBehind calls → (st : S) → PrintsBehind (meaning calls st)) where
   module _ (calls : Calls) (kept : CallsPrintBehind calls) (text : List ℕ) where
-    line_behind : (l : Option (RoutineLine S)) (s : State) (next : Flow → State → Outcome (Unit {0})) →
+    line_behind : (l : Option (RoutineLine S)) (s : State) (next : Flow → State → Outcome State (Unit {0})) →
         ((flow : Flow) (t : State) → Behind text (next flow (onto text t)) (next flow t)) →
-        Behind text (run_line S meaning calls l (onto text s) next) (run_line S meaning calls l s next)
+        Behind text (run_line of_states meaning calls l (onto text s) next) (run_line of_states meaning calls l s next)
     line_behind None s next h = record { is = refl }
     line_behind (Some l) s next h =
         behind_then (turn_behind text l.line (meaning calls l.statement) (λ t. record { is = means calls kept l.statement text t }) s.turns s) h
 
     lines_behind : (body : List (RoutineLine S)) (n : ℕ) (i : ℤ) (s : State) →
-        Behind text (run_lines S meaning calls body n i (onto text s)) (run_lines S meaning calls body n i s)
+        Behind text (run_lines of_states meaning calls body n i (onto text s)) (run_lines of_states meaning calls body n i s)
     lines_behind body zero i s = line_behind (line_at body i) s (λ flow t. spent t) (λ flow t. record { is = refl })
     lines_behind body (suc n) i s =
-        line_behind (line_at body i) s (λ flow t. run_lines S meaning calls body n (next_line i flow) t) (λ flow t. lines_behind body n (next_line i flow) t)
+        line_behind (line_at body i) s (λ flow t. run_lines of_states meaning calls body n (next_line i flow) t) (λ flow t. lines_behind body n (next_line i flow) t)
 
     found_behind : (r : Option (Routine S)) (place : Place) (left right : Option Array) (s : State) →
-        Behind text (run_found S meaning calls r place left right (onto text s)) (run_found S meaning calls r place left right s)
+        Behind text (run_found of_states meaning calls r place left right (onto text s)) (run_found of_states meaning calls r place left right s)
     found_behind None place left right s = record { is = refl }
     found_behind (Some r) place left right s =
-        behind_then (lines_behind r.body s.turns (pos 1) (with_frame (frame_of r left right) s)) (λ _ t. record { is = refl })
+        behind_then (lines_behind r.body s.turns (pos 1) (with_call r.header (labels_of r.body) left right s)) (λ _ t. record { is = refl })
 
-  pub calls_behind : (routines : List (Routine S)) (n : ℕ) → CallsPrintBehind (call_within S meaning routines n)
+  pub calls_behind : (routines : List (Routine S)) (n : ℕ) → CallsPrintBehind (call_within of_states meaning routines n)
   calls_behind routines zero f place left right text s = refl
   calls_behind routines (suc n) f place left right text s =
-      (found_behind (call_within S meaning routines n) (calls_behind routines n) text (routine_of S meaning routines f) place left right s).is
+      (found_behind (call_within of_states meaning routines n) (calls_behind routines n) text (routine_of routines f) place left right s).is
 
 pub functions_print_behind : FunctionsPrintBehind
 functions_print_behind routines n = calls_behind Statement statement_flow statements_print_behind routines n
@@ -179,31 +182,31 @@ steps_joined (statement_item line s ∷ xs) ys = ap (λ l. statement_step line s
 steps_joined (command_item line c ∷ xs) ys = ap (λ l. command_step c ∷ l) (steps_joined xs ys)
 steps_joined (definition_item d ∷ xs) ys = steps_joined xs ys
 
-module _ (S : Type 0) (flow_of : S → State → Outcome Flow) (functions : List (List ℕ)) (report_of : ErrorKind → Place → List ℕ)
+module _ (S : Type 0) (flow_of : S → State → Outcome State Flow) (functions : List (List ℕ)) (report_of : ErrorKind → Place → List ℕ)
     (means : (st : S) (s : State) → Leads Grows s (flow_of st s)) where
-  after_more : {A : Type 0} (ending : Ending) (o : Outcome A) (next longer : Ending → State → Run) →
+  after_more : {A : Type 0} (ending : Ending) (o : Outcome State A) (next longer : Ending → State → Run State) →
       ((e : Ending) (t : State) → Grows (next e t).state (longer e t).state) →
-      Grows (after_statement S flow_of functions report_of ending o next).state (after_statement S flow_of functions report_of ending o longer).state
+      Grows (after_statement of_states flow_of functions report_of ending o next).state (after_statement of_states flow_of functions report_of ending o longer).state
   after_more ending (done a s) next longer h = h ending s
   after_more ending (fails kind place s) next longer h = h reported _
   after_more ending (spent s) next longer h = printed_kept.same (unwound s)
 
   more_steps : (xs ys : List (Step S)) (ending : Ending) (s : State) →
-      Grows (run_steps S flow_of functions report_of xs ending s).state (run_steps S flow_of functions report_of (xs ++ ys) ending s).state
+      Grows (run_steps of_states flow_of functions report_of xs ending s).state (run_steps of_states flow_of functions report_of (xs ++ ys) ending s).state
   more_steps [] ys ending s = run_kept S flow_of functions report_of Grows printed_kept means ys ending s
   more_steps (statement_step line st ∷ xs) ys ending s =
-      after_more ending (on_turn line (flow_of st) s) (run_steps S flow_of functions report_of xs) (run_steps S flow_of functions report_of (xs ++ ys)) (more_steps xs ys)
+      after_more ending (on_turn of_states line (flow_of st) s) (run_steps of_states flow_of functions report_of xs) (run_steps of_states flow_of functions report_of (xs ++ ys)) (more_steps xs ys)
   more_steps (command_step c ∷ xs) ys ending s = more_steps xs ys ending (obeyed functions c s)
 
 pub runs_begin_with_their_prefixes : RunsBeginWithTheirPrefixes
 runs_begin_with_their_prefixes script items more n =
     let definitions : List Definition = definitions_of script.items in
     let routines : List (Routine Statement) = map routine definitions in
-    let flow : Statement → State → Outcome Flow = statement_flow (calls_of Statement statement_flow routines) in
+    let flow : Statement → State → Outcome State Flow = statement_flow (calls_of of_states statement_flow routines) in
     let h = more_steps Statement flow (map (λ d. d.header.f) definitions) (report script)
-    (leads_statement Grows printed_kept (calls_of Statement statement_flow routines) (leads_call Statement statement_flow Grows printed_kept (leads_statement Grows printed_kept) routines 256))
+    (leads_statement Grows printed_kept (calls_of of_states statement_flow routines) (leads_call Statement statement_flow Grows printed_kept (leads_statement Grows printed_kept) routines 256))
     (filter_map step_of items) (filter_map step_of more) well (beginning n) in
-    let run : List (Step Statement) → Run = λ steps. run_steps Statement flow (map (λ d. d.header.f) definitions) (report script) steps well (beginning n) in
+    let run : List (Step Statement) → Run State = λ steps. run_steps of_states flow (map (λ d. d.header.f) definitions) (report script) steps well (beginning n) in
     (h.grows.0, ap (λ steps. (run steps).state.printed) (steps_joined items more) ∙ h.grows.1)
 
 pub bytes_begin_with_their_prefixes : BytesBeginWithTheirPrefixes

@@ -3,9 +3,10 @@ use Rattle.std.proofs.Common.{◌≡◌, ℕ, suc, List, [], ◌∷◌, ◌++◌
 use Rattle.std.specs.List.{filter_map}
 use Rattle.apl_base.specs.declared.faults.Place.{Place}
 use Rattle.apl_base.specs.Array.{Array}
-use Rattle.apl_model.specs.Call.{Routine, calls_of, with_turn, with_ended}
+use Rattle.apl_model.specs.Call.{Routine, calls_of}
+use Rattle.apl_model.specs.Frames.{with_turn, with_ended}
 use Rattle.apl_model.specs.Evaluation.{State, Calls, statement_flow}
-use Rattle.apl_model.specs.Immediate.{run_items, routine, report, definitions_of, step_of, well, beginning}
+use Rattle.apl_model.specs.Immediate.{of_states, run_items, routine, report, definitions_of, step_of, well, beginning}
 use Rattle.apl_model.specs.Tree.{Statement, Script, Item, Definition}
 use Rattle.apl_model_laws.specs.Turns.{TakesTurns, CallsKeepTurns, ExpressionsKeepTurns, PositionsKeepTurns, StatementsKeepTurns, FunctionsKeepTurns, RunsKeepTurns, ImmediateEndsAtMost}
 use Rattle.apl_model_laws.specs.Printing.{BeginsWith, CallsKeepPrinted, ExpressionsKeepPrinted, StatementsKeepPrinted, FunctionsKeepPrinted}
@@ -73,8 +74,8 @@ pub items_kept : (R : State → State → Type 0) → IsKept R → (script : Scr
 items_kept R k script items n =
     let definitions : List Definition = definitions_of script.items in
     let routines : List (Routine Statement) = map routine definitions in
-    run_kept Statement (statement_flow (calls_of Statement statement_flow routines)) (map (λ d. d.header.f) definitions) (report script) R k
-    (leads_statement R k (calls_of Statement statement_flow routines) (leads_call Statement statement_flow R k (leads_statement R k) routines 256))
+    run_kept Statement (statement_flow (calls_of of_states statement_flow routines)) (map (λ d. d.header.f) definitions) (report script) R k
+    (leads_statement R k (calls_of of_states statement_flow routines) (leads_call Statement statement_flow R k (leads_statement R k) routines 256))
     (filter_map step_of items) well (beginning n)
 
 pub runs_keep_turns : RunsKeepTurns

@@ -4,10 +4,13 @@ use Rattle.std.proofs.Common.{◌≡◌, ℕ, zero, suc, ℤ, Bool, true, false,
 use Rattle.apl_base.specs.declared.faults.ErrorKind.{ErrorKind}
 use Rattle.apl_base.specs.declared.faults.Place.{Place}
 use Rattle.apl_base.specs.Array.{Array}
-use Rattle.apl_model.specs.Call.{Routine, RoutineLine, with_turn, with_ended, entered, turn, on_turn, with_frame, without_frame, frame_of, line_at, next_line, run_line, run_lines, run_routine, run_found, routine_of, call_within, result_in}
+use Rattle.apl_model.specs.Call.{Routine, RoutineLine, entered, turn, on_turn, line_at, next_line, run_line, run_lines, run_routine, run_found, routine_of, call_within, labels_of}
+use Rattle.apl_model.specs.Frames.{with_turn, with_ended, with_call, without_call, result_in}
 use Rattle.apl_model.specs.Environment.{Environment, look_up}
-use Rattle.apl_model.specs.Evaluation.{State, Outcome, done, fails, spent, and_then, at_place, needed, origin_of, with_name, with_printed, replace_in, Calls, value_of, argument, positions_of, Flow, branch_by, branch_to, print_result, print_value, silently, expression_flow, statement_flow}
-use Rattle.apl_model.specs.Immediate.{Step, statement_step, command_step, obeyed, unwound, Ending, reported, Run, after_statement, run_steps}
+use Rattle.apl_model.specs.Evaluation.{State, at_place, needed, origin_of, with_name, with_printed, replace_in, Calls, value_of, argument, positions_of, branch_by, branch_to, print_result, of_arrays, statement_flow}
+use Rattle.apl_model.specs.Order.{silently, show_value, expression_in}
+use Rattle.apl_model.specs.Outcome.{Outcome, done, fails, spent, and_then, Flow}
+use Rattle.apl_model.specs.Immediate.{of_states, Step, statement_step, command_step, obeyed, unwound, Ending, reported, Run, after_statement, run_steps}
 use Rattle.apl_model.specs.Tree.{Tree, Slot, Positions, Statement, constant, variable, call, parenthesis, monadic, dyadic, reduction, outer_product, inner_product, subscript, assignment, indexed_assignment, output, elided, given, no_position, position, nothing, branch, expression}
 use Rattle.apl_model.specs.Whole.{Answer, is_empty, is_text}
 use Rattle.apl_model.specs.declared.scripts.Command.{Command}
@@ -18,17 +21,17 @@ use Rattle.apl_model_laws.specs.Turns.{state_of}
 pub record IsKept (R : State → State → Type 0) : Type 0 where
   pub same : (s : State) → R s s
   pub onward : (s t u : State) → R s t → R t u → R s u
-  pub variables : (s : State) (e : Environment) → R s (record s { variables = e })
+  pub variables : (s : State) (e : Environment Array) → R s (record s { variables = e })
   pub printed : (s : State) (text : List ℕ) → R s (with_printed text s)
   -- a statement that is begun and cut off
   pub cut : (s t : State) (left : ℕ) → s.turns ≡ suc left → R (with_turn left s) t → R s t
   -- a statement that is begun and ends
   pub over : (s t : State) (left line number : ℕ) → s.turns ≡ suc left → R (with_turn left s) t → R s (with_ended line number t)
 
-pub record Leads (R : State → State → Type 0) {A : Type 0} (s : State) (o : Outcome A) : Type 0 where
+pub record Leads (R : State → State → Type 0) {A : Type 0} (s : State) (o : Outcome State A) : Type 0 where
   pub to : R s (state_of o)
 
-pub leads_then : {R : State → State → Type 0} → IsKept R → {A B : Type 0} {s : State} {o : Outcome A} {next : A → State → Outcome B} →
+pub leads_then : {R : State → State → Type 0} → IsKept R → {A B : Type 0} {s : State} {o : Outcome State A} {next : A → State → Outcome State B} →
     Leads R s o → ((a : A) (t : State) → Leads R t (next a t)) → Leads R s (and_then o next)
 leads_then k {s = s} {o = done a t} {next = next} h n = record { to = k.onward s t (state_of (next a t)) h.to (n a t).to }
 leads_then k {o = fails kind place t} h n = record { to = h.to }
@@ -85,7 +88,7 @@ module _ (R : State → State → Type 0) (k : IsKept R) (calls : Calls)
     leads_positions (position q qs) s =
         leads_then k (leads_positions qs s) (λ vs t. leads_then k (leads_argument q t) (λ v u. leads_done k (v ∷ vs) u))
 
-  leads_flow : (t : Tree) (s : State) → Leads R s (and_then (value_of calls t s) print_value)
+  leads_flow : (t : Tree) (s : State) → Leads R s (and_then (value_of calls t s) (show_value (of_arrays calls)))
   leads_flow t s = leads_then k (leads_value t s) (λ a u. leads_print k _ _ u)
 
   leads_silent : (t : Tree) (s : State) → Leads R s (and_then (value_of calls t s) silently)
@@ -103,7 +106,7 @@ module _ (R : State → State → Type 0) (k : IsKept R) (calls : Calls)
       by false true = record { to = k.same s }
       by false false = leads_done k _ s
 
-  leads_expression : (t : Tree) (s : State) → Leads R s (expression_flow calls t s)
+  leads_expression : (t : Tree) (s : State) → Leads R s (expression_in (of_arrays calls) t s)
   leads_expression (call f left right place) s =
       leads_then k (leads_argument right s) (λ b t. leads_then k (leads_argument left t) (λ a u. leads_then k (kept f place a b u) leads_result))
   leads_expression (assignment name value place) s = leads_silent (assignment name value place) s
@@ -126,51 +129,51 @@ module _ (R : State → State → Type 0) (k : IsKept R) (calls : Calls)
 
 -- ---- calls
 
-pub leads_turn : {R : State → State → Type 0} → IsKept R → {A : Type 0} (line : ℕ) (act : State → Outcome A) →
-    ((s : State) → Leads R s (act s)) → (n : ℕ) (s : State) → s.turns ≡ n → Leads R s (turn line n act s)
+pub leads_turn : {R : State → State → Type 0} → IsKept R → {A : Type 0} (line : ℕ) (act : State → Outcome State A) →
+    ((s : State) → Leads R s (act s)) → (n : ℕ) (s : State) → s.turns ≡ n → Leads R s (turn of_states line n act s)
 leads_turn k line act h zero s e = record { to = k.same s }
 leads_turn {R} k {A} line act h (suc left) s e = ends (act (with_turn left s)) (h (with_turn left s)).to
   where
-    ends : (o : Outcome A) → R (with_turn left s) (state_of o) → Leads R s (entered line (suc s.begun) o)
+    ends : (o : Outcome State A) → R (with_turn left s) (state_of o) → Leads R s (entered of_states line (suc s.begun) o)
     ends (done a t) r = record { to = k.over s t left line (suc s.begun) e r }
     ends (fails kind place t) r = record { to = k.over s t left line (suc s.begun) e r }
     ends (spent t) r = record { to = k.cut s t left e r }
 
-module _ (S : Type 0) (meaning : Calls → S → State → Outcome Flow) (R : State → State → Type 0) (k : IsKept R)
+module _ (S : Type 0) (meaning : Calls → S → State → Outcome State Flow) (R : State → State → Type 0) (k : IsKept R)
     (means : (calls : Calls) → ((f : List ℕ) (place : Place) (left right : Option Array) (s : State) → Leads R s (calls f place left right s)) →
     (st : S) (s : State) → Leads R s (meaning calls st s)) where
   module _ (calls : Calls) (kept : (f : List ℕ) (place : Place) (left right : Option Array) (s : State) → Leads R s (calls f place left right s)) where
-    leads_line : (l : Option (RoutineLine S)) (s : State) (next : Flow → State → Outcome (Unit {0})) →
-        ((flow : Flow) (t : State) → Leads R t (next flow t)) → Leads R s (run_line S meaning calls l s next)
+    leads_line : (l : Option (RoutineLine S)) (s : State) (next : Flow → State → Outcome State (Unit {0})) →
+        ((flow : Flow) (t : State) → Leads R t (next flow t)) → Leads R s (run_line of_states meaning calls l s next)
     leads_line None s next h = leads_done k tt s
     leads_line (Some l) s next h = leads_then k (leads_turn k l.line (meaning calls l.statement) (means calls kept l.statement) s.turns s refl) h
 
-    pub leads_lines : (body : List (RoutineLine S)) (n : ℕ) (i : ℤ) (s : State) → Leads R s (run_lines S meaning calls body n i s)
+    pub leads_lines : (body : List (RoutineLine S)) (n : ℕ) (i : ℤ) (s : State) → Leads R s (run_lines of_states meaning calls body n i s)
     leads_lines body zero i s = leads_line (line_at body i) s (λ flow t. spent t) (λ flow t. record { to = k.same t })
     leads_lines body (suc n) i s =
-        leads_line (line_at body i) s (λ flow t. run_lines S meaning calls body n (next_line i flow) t) (λ flow t. leads_lines body n (next_line i flow) t)
+        leads_line (line_at body i) s (λ flow t. run_lines of_states meaning calls body n (next_line i flow) t) (λ flow t. leads_lines body n (next_line i flow) t)
 
-    leads_routine : (r : Routine S) (left right : Option Array) (s : State) → Leads R s (run_routine S meaning calls r left right s)
+    leads_routine : (r : Routine S) (left right : Option Array) (s : State) → Leads R s (run_routine of_states meaning calls r left right s)
     leads_routine r left right s =
-        let inside = with_frame (frame_of r left right) s in
-        let lines : Leads R inside (run_lines S meaning calls r.body s.turns (pos 1) inside) = leads_lines r.body s.turns (pos 1) inside in
-        let all : Leads R inside (and_then (run_lines S meaning calls r.body s.turns (pos 1) inside) (λ _ t. done (result_in t.variables r.header.result) (without_frame t))) =
-        leads_then k lines (λ _ t. record { to = k.variables t (without_frame t).variables }) in
+        let inside = with_call r.header (labels_of r.body) left right s in
+        let lines : Leads R inside (run_lines of_states meaning calls r.body s.turns (pos 1) inside) = leads_lines r.body s.turns (pos 1) inside in
+        let all : Leads R inside (and_then (run_lines of_states meaning calls r.body s.turns (pos 1) inside) (λ _ t. done (result_in t.variables r.header.result) (without_call t))) =
+        leads_then k lines (λ _ t. record { to = k.variables t (without_call t).variables }) in
         record { to = k.onward s inside _ (k.variables s inside.variables) all.to }
 
-    pub leads_found : (r : Option (Routine S)) (place : Place) (left right : Option Array) (s : State) → Leads R s (run_found S meaning calls r place left right s)
+    pub leads_found : (r : Option (Routine S)) (place : Place) (left right : Option Array) (s : State) → Leads R s (run_found of_states meaning calls r place left right s)
     leads_found None place left right s = record { to = k.same s }
     leads_found (Some r) place left right s = leads_routine r left right s
 
   pub leads_call : (routines : List (Routine S)) (n : ℕ) (f : List ℕ) (place : Place) (left right : Option Array) (s : State) →
-      Leads R s (call_within S meaning routines n f place left right s)
+      Leads R s (call_within of_states meaning routines n f place left right s)
   leads_call routines zero f place left right s = record { to = k.same s }
   leads_call routines (suc n) f place left right s =
-      leads_found (call_within S meaning routines n) (leads_call routines n) (routine_of S meaning routines f) place left right s
+      leads_found (call_within of_states meaning routines n) (leads_call routines n) (routine_of routines f) place left right s
 
 -- ---- runs
 
-module _ (S : Type 0) (flow_of : S → State → Outcome Flow) (functions : List (List ℕ)) (report_of : ErrorKind → Place → List ℕ)
+module _ (S : Type 0) (flow_of : S → State → Outcome State Flow) (functions : List (List ℕ)) (report_of : ErrorKind → Place → List ℕ)
     (R : State → State → Type 0) (k : IsKept R) (means : (st : S) (s : State) → Leads R s (flow_of st s)) where
   obeyed_kept : (c : Command) (s : State) → R s (obeyed functions c s)
   obeyed_kept Vars s = k.printed s _
@@ -178,17 +181,17 @@ module _ (S : Type 0) (flow_of : S → State → Outcome Flow) (functions : List
   obeyed_kept (Erase names) s = k.variables s (obeyed functions (Erase names) s).variables
   obeyed_kept (Origin o) s = k.variables s (obeyed functions (Origin o) s).variables
 
-  after_kept : {A : Type 0} (ending : Ending) (s : State) (o : Outcome A) (next : Ending → State → Run) → Leads R s o →
-      ((e : Ending) (t : State) → R t (next e t).state) → R s (after_statement S flow_of functions report_of ending o next).state
+  after_kept : {A : Type 0} (ending : Ending) (s : State) (o : Outcome State A) (next : Ending → State → Run State) → Leads R s o →
+      ((e : Ending) (t : State) → R t (next e t).state) → R s (after_statement of_states flow_of functions report_of ending o next).state
   after_kept ending s (done a t) next h n = k.onward s t _ h.to (n ending t)
   after_kept ending s (fails kind place t) next h n =
       k.onward s t _ h.to (k.onward t (unwound t) _ (k.variables t (unwound t).variables)
       (k.onward (unwound t) (with_printed (report_of kind place) (unwound t)) _ (k.printed (unwound t) (report_of kind place)) (n reported _)))
   after_kept ending s (spent t) next h n = k.onward s t _ h.to (k.variables t (unwound t).variables)
 
-  pub run_kept : (steps : List (Step S)) (ending : Ending) (s : State) → R s (run_steps S flow_of functions report_of steps ending s).state
+  pub run_kept : (steps : List (Step S)) (ending : Ending) (s : State) → R s (run_steps of_states flow_of functions report_of steps ending s).state
   run_kept [] ending s = k.same s
   run_kept (statement_step line st ∷ steps) ending s =
-      after_kept ending s (on_turn line (flow_of st) s) (run_steps S flow_of functions report_of steps)
+      after_kept ending s (on_turn of_states line (flow_of st) s) (run_steps of_states flow_of functions report_of steps)
       (leads_turn k line (flow_of st) (means st) s.turns s refl) (run_kept steps)
   run_kept (command_step c ∷ steps) ending s = k.onward s (obeyed functions c s) _ (obeyed_kept c s) (run_kept steps ending (obeyed functions c s))

@@ -3,6 +3,7 @@ use Rattle.std.proofs.Common.{ℕ, zero, suc, ◌+◌, ◌≤◌, Bool, true, fa
 use Rattle.std.specs.Prelude.{slice_get}
 use Rattle.std.specs.List.{AllByRecursion, filter_map, find, fold}
 use Rattle.std.proofs.lemmas.Int.{ints}
+use Rattle.std.proofs.lemmas.List.{length-map}
 use Rattle.apl_base.specs.declared.cells.Kind.TheVariants.{Num}
 use Rattle.apl_base.specs.declared.faults.ErrorKind.{ErrorKind}
 use Rattle.apl_base.specs.declared.faults.Place.{Place}
@@ -15,11 +16,14 @@ use Rattle.apl_model.specs.declared.functions.MonFn.TheVariants as one
 use Rattle.apl_model.specs.declared.scripts.Command.{Command}
 use Rattle.apl_model.specs.declared.scripts.Command.TheVariants.{Vars, Fns, Erase, Origin}
 use Rattle.apl_model.specs.declared.tokens.Heading.{Heading}
-use Rattle.apl_model.specs.Call.{Routine, RoutineLine, with_turn, entered, turn, on_turn, argument_binding, label_bindings, unset, with_frame, innermost_gone, frame_of, line_at, next_line, run_line, run_lines, run_found, routine_of, call_within, calls_of, result_in}
-use Rattle.apl_model.specs.Environment.{Environment, Bindings, is_same_name, declares, bound_in, bound_to, found_in, look_up, set_in_frames, declared_in, set_name, unset_global}
-use Rattle.apl_model.specs.Evaluation.{State, Outcome, done, fails, spent, and_then, at_place, needed, origin_of, monadic_value, dyadic_value, replace_in, Calls, value_of, argument, positions_of, Flow, branch_by, branch_to, print_result, print_value, silently, expression_flow, statement_flow}
+use Rattle.apl_model.specs.Call.{Routine, RoutineLine, entered, turn, on_turn, line_at, next_line, run_line, run_lines, run_found, routine_of, call_within, calls_of, labels_of}
+use Rattle.apl_model.specs.Frames.{with_turn, argument_binding, label_bindings, unset, with_call, frame_of, result_in}
+use Rattle.apl_model.specs.Environment.{Environment, Bindings, is_same_name, declares, bound_in, bound_to, found_in, look_up, set_in_frames, declared_in, set_name, unset_global, innermost_gone}
+use Rattle.apl_model.specs.Evaluation.{State, at_place, needed, origin_of, monadic_value, dyadic_value, replace_in, Calls, value_of, argument, positions_of, branch_by, branch_to, print_result, of_arrays, statement_flow}
+use Rattle.apl_model.specs.Order.{silently, show_value, expression_in}
+use Rattle.apl_model.specs.Outcome.{Outcome, done, fails, spent, and_then, Flow}
 use Rattle.apl_model.specs.Grammar.{IsExpression, ArePositions, IsPosition, IsStatement, IsCommand}
-use Rattle.apl_model.specs.Immediate.{Step, statement_step, command_step, obeyed, unwound, Ending, reported, well, Run, after_statement, run_steps, step_of, definitions_of, routine, report, beginning}
+use Rattle.apl_model.specs.Immediate.{of_states, Step, statement_step, command_step, obeyed, unwound, Ending, reported, well, Run, after_statement, run_steps, step_of, definitions_of, routine, report, beginning}
 use Rattle.apl_model.specs.Tree as tree
 use Rattle.apl_model.specs.Tree.{Tree, Slot, Positions, Statement, Script, Item, Definition, statement_item, command_item, definition_item, constant, variable, call, parenthesis, monadic, dyadic, reduction, outer_product, inner_product, assignment, indexed_assignment, output, elided, given, no_position, position, nothing, branch, expression}
 use Rattle.apl_model.specs.Whole.{Answer, is_empty, is_text, scalar}
@@ -79,7 +83,7 @@ replacements_are_lawful o a ps b g h = (replacement-gives o a ps b g h).answer
 
 -- ---- variables
 
-bound_in-lawful : (bs : Bindings) (name : List ℕ) → AreBindings bs → IsOptional (bound_in bs name)
+bound_in-lawful : (bs : Bindings Array) (name : List ℕ) → AreBindings bs → IsOptional (bound_in bs name)
 bound_in-lawful [] name h = tt
 bound_in-lawful (b ∷ bs) name h = by (is_same_name b.0 name) (bound_in bs name) h.0 (bound_in-lawful bs name h.1)
   where
@@ -87,15 +91,15 @@ bound_in-lawful (b ∷ bs) name h = by (is_same_name b.0 name) (bound_in bs name
     by true r p q = p
     by false r p q = q
 
-bound_to-lawful : (bs : Bindings) (name : List ℕ) (a : Option Array) → AreBindings bs → IsOptional a → AreBindings (bound_to bs name a)
+bound_to-lawful : (bs : Bindings Array) (name : List ℕ) (a : Option Array) → AreBindings bs → IsOptional a → AreBindings (bound_to bs name a)
 bound_to-lawful [] name a h p = (p, tt)
 bound_to-lawful (b ∷ bs) name a h p = by (is_same_name b.0 name) (bound_to bs name a) h.1 (bound_to-lawful bs name a h.1 p)
   where
-    by : (t : Bool) (r : Bindings) → AreBindings bs → AreBindings r → AreBindings (if t then (name, a) ∷ bs else b ∷ r)
+    by : (t : Bool) (r : Bindings Array) → AreBindings bs → AreBindings r → AreBindings (if t then (name, a) ∷ bs else b ∷ r)
     by true r q c = (p, q)
     by false r q c = (h.0, c)
 
-found_in-lawful : (fs : List Bindings) (globals : Bindings) (name : List ℕ) → AllByRecursion AreBindings fs → AreBindings globals → IsOptional (found_in fs globals name)
+found_in-lawful : (fs : List (Bindings Array)) (globals : Bindings Array) (name : List ℕ) → AllByRecursion AreBindings fs → AreBindings globals → IsOptional (found_in fs globals name)
 found_in-lawful [] globals name h g = bound_in-lawful globals name g
 found_in-lawful (f ∷ fs) globals name h g = by (declares f name) (bound_in f name) (found_in fs globals name) (bound_in-lawful f name h.0) (found_in-lawful fs globals name h.1 g)
   where
@@ -103,18 +107,18 @@ found_in-lawful (f ∷ fs) globals name h g = by (declares f name) (bound_in f n
     by true q r a b = a
     by false q r a b = b
 
-look_up-lawful : (e : Environment) (name : List ℕ) → IsEnvironment e → IsOptional (look_up e name)
+look_up-lawful : (e : Environment Array) (name : List ℕ) → IsEnvironment e → IsOptional (look_up e name)
 look_up-lawful e name h = found_in-lawful e.frames e.globals name h.frames h.globals
 
-set_in_frames-lawful : (fs : List Bindings) (name : List ℕ) (a : Array) → AllByRecursion AreBindings fs → IsArray a → AllByRecursion AreBindings (set_in_frames fs name a)
+set_in_frames-lawful : (fs : List (Bindings Array)) (name : List ℕ) (a : Array) → AllByRecursion AreBindings fs → IsArray a → AllByRecursion AreBindings (set_in_frames fs name a)
 set_in_frames-lawful [] name a h p = tt
 set_in_frames-lawful (f ∷ fs) name a h p = by (declares f name) (set_in_frames fs name a) (set_in_frames-lawful fs name a h.1 p)
   where
-    by : (t : Bool) (r : List Bindings) → AllByRecursion AreBindings r → AllByRecursion AreBindings (if t then bound_to f name (Some a) ∷ fs else f ∷ r)
+    by : (t : Bool) (r : List (Bindings Array)) → AllByRecursion AreBindings r → AllByRecursion AreBindings (if t then bound_to f name (Some a) ∷ fs else f ∷ r)
     by true r q = (bound_to-lawful f name (Some a) h.0 p, h.1)
     by false r q = (h.0, q)
 
-set_name-lawful : (e : Environment) (name : List ℕ) (a : Array) → IsEnvironment e → IsArray a → IsEnvironment (set_name e name a)
+set_name-lawful : (e : Environment Array) (name : List ℕ) (a : Array) → IsEnvironment e → IsArray a → IsEnvironment (set_name e name a)
 set_name-lawful e name a h p = by (declared_in e.frames name)
   where
     by : (t : Bool) → IsEnvironment (if t then record e { frames = set_in_frames e.frames name a } else record e { globals = bound_to e.globals name (Some a) })
@@ -123,10 +127,10 @@ set_name-lawful e name a h p = by (declared_in e.frames name)
 
 -- ---- outcomes
 
-pub record Safe {A : Type 0} (Value : A → Type 0) (o : Outcome A) : Type 0 where
+pub record Safe {A : Type 0} (Value : A → Type 0) (o : Outcome State A) : Type 0 where
   pub outcome : IsOutcome Value o
 
-safe_then : {A B : Type 0} {P : A → Type 0} {Q : B → Type 0} {o : Outcome A} {next : A → State → Outcome B} →
+safe_then : {A B : Type 0} {P : A → Type 0} {Q : B → Type 0} {o : Outcome State A} {next : A → State → Outcome State B} →
     Safe P o → ((a : A) (t : State) → P a → IsEnvironment t.variables → Safe Q (next a t)) → Safe Q (and_then o next)
 safe_then {o = done a t} h n = n a t h.outcome.0 h.outcome.1
 safe_then {o = fails kind place t} h n = record { outcome = h.outcome }
@@ -203,7 +207,7 @@ module _ (hs : List Heading) (calls : Calls) (lawful : CallsAreLawful calls) whe
   result-safe (Some a) s e = record { outcome = (tt, e) }
   result-safe None s e = record { outcome = (tt, e) }
 
-  flow-safe : (t : Tree) (s : State) → IsExpression hs t → IsEnvironment s.variables → Safe Any (and_then (value_of calls t s) print_value)
+  flow-safe : (t : Tree) (s : State) → IsExpression hs t → IsEnvironment s.variables → Safe Any (and_then (value_of calls t s) (show_value (of_arrays calls)))
   flow-safe t s h e = safe_then (value-safe t s h e) (λ a u p e. record { outcome = (tt, e) })
 
   silent-safe : (t : Tree) (s : State) → IsExpression hs t → IsEnvironment s.variables → Safe Any (and_then (value_of calls t s) silently)
@@ -217,7 +221,7 @@ module _ (hs : List Heading) (calls : Calls) (lawful : CallsAreLawful calls) whe
       by false true = record { outcome = e }
       by false false = record { outcome = (tt, e) }
 
-  expression-safe : (t : Tree) (s : State) → IsExpression hs t → IsEnvironment s.variables → Safe Any (expression_flow calls t s)
+  expression-safe : (t : Tree) (s : State) → IsExpression hs t → IsEnvironment s.variables → Safe Any (expression_in (of_arrays calls) t s)
   expression-safe (call f left right place) s h e =
       let slots = call-slots hs f left right place h in
       safe_then (argument-safe right s slots.1 e) (λ b t q e. safe_then (argument-safe left t slots.0 e) (λ a u p e.
@@ -251,12 +255,12 @@ statements_are_lawful hs calls lawful t h s e = (statement-safe hs calls lawful 
 
 -- ---- calls
 
-turn-safe : {A : Type 0} (P : A → Type 0) (line : ℕ) (act : State → Outcome A) → ((s : State) → IsEnvironment s.variables → Safe P (act s)) →
-    (n : ℕ) (s : State) → IsEnvironment s.variables → Safe P (turn line n act s)
+turn-safe : {A : Type 0} (P : A → Type 0) (line : ℕ) (act : State → Outcome State A) → ((s : State) → IsEnvironment s.variables → Safe P (act s)) →
+    (n : ℕ) (s : State) → IsEnvironment s.variables → Safe P (turn of_states line n act s)
 turn-safe P line act h zero s e = record { outcome = e }
 turn-safe {A} P line act h (suc left) s e = ends (act (with_turn left s)) (h (with_turn left s) e)
   where
-    ends : (o : Outcome A) → Safe P o → Safe P (entered line (suc s.begun) o)
+    ends : (o : Outcome State A) → Safe P o → Safe P (entered of_states line (suc s.begun) o)
     ends (done a t) k = record { outcome = k.outcome }
     ends (fails kind place t) k = record { outcome = k.outcome }
     ends (spent t) k = record { outcome = k.outcome }
@@ -272,31 +276,31 @@ unset-lawful (n ∷ ns) = (tt, unset-lawful ns)
 pub below-number : (k n : ℕ) → k ≤ n → IsNumber (pos n) → IsNumber (pos k)
 below-number k n l h = record { least = omega (arith, ints, h.most, l); most = omega (arith, ints, h.most, l) }
 
-labels-lawful : {S : Type 0} (k n : ℕ) (ls : List (RoutineLine S)) → k + length ls ≤ suc n → IsNumber (pos n) → AreBindings (label_bindings k ls)
+labels-lawful : (k n : ℕ) (ls : List (Option (List ℕ))) → k + length ls ≤ suc n → IsNumber (pos n) → AreBindings (label_bindings k ls)
 labels-lawful k n [] l h = tt
 labels-lawful k n (x ∷ ls) l h =
-    all_append (λ (b : List ℕ × Option Array). IsOptional b.1) (argument_binding x.label (Some (scalar Num (pos k)))) (label_bindings (suc k) ls)
-    (argument_binding-lawful x.label (Some (scalar Num (pos k))) (scalar-array Num (pos k) (below-number k n (omega (arith, l)) h)))
+    all_append (λ (b : List ℕ × Option Array). IsOptional b.1) (argument_binding x (Some (scalar Num (pos k)))) (label_bindings (suc k) ls)
+    (argument_binding-lawful x (Some (scalar Num (pos k))) (scalar-array Num (pos k) (below-number k n (omega (arith, l)) h)))
     (labels-lawful (suc k) n ls (omega (arith, l)) h)
 
-bindings_append : (xs ys : Bindings) → AreBindings xs → AreBindings ys → AreBindings (xs ++ ys)
+bindings_append : (xs ys : Bindings Array) → AreBindings xs → AreBindings ys → AreBindings (xs ++ ys)
 bindings_append xs ys a b = all_append (λ (b : List ℕ × Option Array). IsOptional b.1) xs ys a b
 
-frame-lawful : (r : Routine Statement) (left right : Option Array) → IsNumber (pos (length r.body)) → IsOptional left → IsOptional right → AreBindings (frame_of r left right)
+frame-lawful : (r : Routine Statement) (left right : Option Array) → IsNumber (pos (length r.body)) → IsOptional left → IsOptional right → AreBindings (frame_of r.header (labels_of r.body) left right)
 frame-lawful r left right h p q =
     let a = argument_binding r.header.result None in
     let b = argument_binding r.header.left left in
     let c = argument_binding r.header.right right in
     let d = map unset r.header.locals in
-    bindings_append (a ++ b ++ c ++ d) (label_bindings 1 r.body) (bindings_append (a ++ b ++ c) d (bindings_append (a ++ b) c (bindings_append a b
+    bindings_append (a ++ b ++ c ++ d) (label_bindings 1 (labels_of r.body)) (bindings_append (a ++ b ++ c) d (bindings_append (a ++ b) c (bindings_append a b
     (argument_binding-lawful r.header.result None tt) (argument_binding-lawful r.header.left left p)) (argument_binding-lawful r.header.right right q)) (unset-lawful r.header.locals))
-    (labels-lawful 1 (length r.body) r.body (omega arith) h)
+    (labels-lawful 1 (length r.body) (labels_of r.body) (omega (arith, length-map r.body (λ (l : RoutineLine Statement). l.label))) h)
 
-gone-lawful : (fs : List Bindings) → AllByRecursion AreBindings fs → AllByRecursion AreBindings (innermost_gone fs)
+gone-lawful : (fs : List (Bindings Array)) → AllByRecursion AreBindings fs → AllByRecursion AreBindings (innermost_gone fs)
 gone-lawful [] h = tt
 gone-lawful (f ∷ fs) h = h.1
 
-result-lawful : (e : Environment) (name : Option (List ℕ)) → IsEnvironment e → IsOptional (result_in e name)
+result-lawful : (e : Environment Array) (name : Option (List ℕ)) → IsEnvironment e → IsOptional (result_in e name)
 result-lawful e None h = tt
 result-lawful e (Some name) h = look_up-lawful e name h
 
@@ -317,24 +321,24 @@ abbrev Nothing : Unit {0} → Type 0
 Nothing u = Unit {0}
 
 module _ (hs : List Heading) (calls : Calls) (lawful : CallsAreLawful calls) where
-  line-safe : (l : Option (RoutineLine Statement)) (s : State) (next : Flow → State → Outcome (Unit {0})) → IfSome l (IsLine hs) → IsEnvironment s.variables →
-      ((flow : Flow) (t : State) → IsEnvironment t.variables → Safe Nothing (next flow t)) → Safe Nothing (run_line Statement statement_flow calls l s next)
+  line-safe : (l : Option (RoutineLine Statement)) (s : State) (next : Flow → State → Outcome State (Unit {0})) → IfSome l (IsLine hs) → IsEnvironment s.variables →
+      ((flow : Flow) (t : State) → IsEnvironment t.variables → Safe Nothing (next flow t)) → Safe Nothing (run_line of_states statement_flow calls l s next)
   line-safe None s next h e n = record { outcome = (tt, e) }
   line-safe (Some l) s next h e n =
       safe_then (turn-safe (λ flow. Unit {0}) l.line (statement_flow calls l.statement) (λ t e. statement-safe hs calls lawful l.statement t h e) s.turns s e) (λ flow t u e. n flow t e)
 
   lines-safe : (body : List (RoutineLine Statement)) (n : ℕ) (i : ℤ) (s : State) → AllByRecursion (IsLine hs) body → IsEnvironment s.variables →
-      Safe Nothing (run_lines Statement statement_flow calls body n i s)
+      Safe Nothing (run_lines of_states statement_flow calls body n i s)
   lines-safe body zero i s h e = line-safe (line_at body i) s (λ flow t. spent t) (line-at hs body i h) e (λ flow t e. record { outcome = e })
   lines-safe body (suc n) i s h e =
-      line-safe (line_at body i) s (λ flow t. run_lines Statement statement_flow calls body n (next_line i flow) t) (line-at hs body i h) e
+      line-safe (line_at body i) s (λ flow t. run_lines of_states statement_flow calls body n (next_line i flow) t) (line-at hs body i h) e
       (λ flow t e. lines-safe body n (next_line i flow) t h e)
 
   found-safe : (r : Option (Routine Statement)) (place : Place) (left right : Option Array) (s : State) → IfSome r (IsRoutine hs) → IsOptional left → IsOptional right → IsEnvironment s.variables →
-      Safe IsOptional (run_found Statement statement_flow calls r place left right s)
+      Safe IsOptional (run_found of_states statement_flow calls r place left right s)
   found-safe None place left right s h p q e = record { outcome = e }
   found-safe (Some r) place left right s h p q e =
-      let inside = with_frame (frame_of r left right) s in
+      let inside = with_call r.header (labels_of r.body) left right s in
       let lawful-inside : IsEnvironment inside.variables = record { globals = e.globals; frames = (frame-lawful r left right h.few p q, e.frames); origin = e.origin } in
       safe_then (lines-safe r.body s.turns (pos 1) inside h.lines lawful-inside)
       (λ u t k e. record { outcome = (result-lawful t.variables r.header.result e, record { globals = e.globals; frames = gone-lawful t.variables.frames e.frames; origin = e.origin }) })
@@ -350,19 +354,19 @@ found-routine hs test (r ∷ rs) h = by (test r) (find test rs) (found-routine h
 pub functions_are_lawful : FunctionsAreLawful
 functions_are_lawful hs routines h zero f place left right p q s e = e
 functions_are_lawful hs routines h (suc n) f place left right p q s e =
-    (found-safe hs (call_within Statement statement_flow routines n) (functions_are_lawful hs routines h n)
-    (routine_of Statement statement_flow routines f) place left right s (found-routine hs (λ r. is_same_name r.header.f f) routines h) p q e).outcome
+    (found-safe hs (call_within of_states statement_flow routines n) (functions_are_lawful hs routines h n)
+    (routine_of routines f) place left right s (found-routine hs (λ r. is_same_name r.header.f f) routines h) p q e).outcome
 
 -- ---- runs
 
-unset-global : (bs : Bindings) (name : List ℕ) → AreBindings bs → AreBindings (unset_global bs name)
+unset-global : (bs : Bindings Array) (name : List ℕ) → AreBindings bs → AreBindings (unset_global bs name)
 unset-global bs name h = by (declares bs name)
   where
     by : (t : Bool) → AreBindings (if t then bound_to bs name None else bs)
     by true = bound_to-lawful bs name None h tt
     by false = h
 
-unset-globals : (names : List (List ℕ)) (bs : Bindings) → AreBindings bs → AreBindings (fold unset_global bs names)
+unset-globals : (names : List (List ℕ)) (bs : Bindings Array) → AreBindings bs → AreBindings (fold unset_global bs names)
 unset-globals [] bs h = h
 unset-globals (n ∷ ns) bs h = unset-globals ns (unset_global bs n) (unset-global bs n h)
 
@@ -380,18 +384,18 @@ unwound-lawful : (s : State) → IsEnvironment s.variables → IsEnvironment (un
 unwound-lawful s e = record { globals = e.globals; frames = tt; origin = e.origin }
 
 module _ (hs : List Heading) (calls : Calls) (lawful : CallsAreLawful calls) (functions : List (List ℕ)) (report_of : ErrorKind → Place → List ℕ) where
-  after-lawful : (ending : Ending) (o : Outcome Flow) (next : Ending → State → Run) → Safe (λ flow. Unit {0}) o →
+  after-lawful : (ending : Ending) (o : Outcome State Flow) (next : Ending → State → Run State) → Safe (λ flow. Unit {0}) o →
       ((n : Ending) (t : State) → IsEnvironment t.variables → IsEnvironment (next n t).state.variables) →
-      IsEnvironment (after_statement Statement (statement_flow calls) functions report_of ending o next).state.variables
+      IsEnvironment (after_statement of_states (statement_flow calls) functions report_of ending o next).state.variables
   after-lawful ending (done a s) next h n = n ending s h.outcome.1
   after-lawful ending (fails kind place s) next h n = n reported _ (unwound-lawful s h.outcome)
   after-lawful ending (spent s) next h n = unwound-lawful s h.outcome
 
   steps-lawful : (steps : List (Step Statement)) (ending : Ending) (s : State) → AllByRecursion (IsStep hs) steps → IsEnvironment s.variables →
-      IsEnvironment (run_steps Statement (statement_flow calls) functions report_of steps ending s).state.variables
+      IsEnvironment (run_steps of_states (statement_flow calls) functions report_of steps ending s).state.variables
   steps-lawful [] ending s h e = e
   steps-lawful (statement_step line st ∷ steps) ending s h e =
-      after-lawful ending (on_turn line (statement_flow calls st) s) (run_steps Statement (statement_flow calls) functions report_of steps)
+      after-lawful ending (on_turn of_states line (statement_flow calls st) s) (run_steps of_states (statement_flow calls) functions report_of steps)
       (turn-safe (λ flow. Unit {0}) line (statement_flow calls st) (λ t e. statement-safe hs calls lawful st t h.0 e) s.turns s e)
       (λ n t e. steps-lawful steps n t h.1 e)
   steps-lawful (command_step c ∷ steps) ending s h e = steps-lawful steps ending (obeyed functions c s) h.1 (obeyed-lawful functions c s h.0 e)
@@ -412,6 +416,6 @@ pub runs_are_lawful : RunsAreLawful
 runs_are_lawful hs script items n h k =
     let definitions : List Definition = definitions_of script.items in
     let routines : List (Routine Statement) = map routine definitions in
-    steps-lawful hs (calls_of Statement statement_flow routines) (functions_are_lawful hs routines (all-routines hs script.items h) 256)
+    steps-lawful hs (calls_of of_states statement_flow routines) (functions_are_lawful hs routines (all-routines hs script.items h) 256)
     (map (λ d. d.header.f) definitions) (report script) (filter_map step_of items) well (beginning n) (all-steps hs items k)
     (record { globals = tt; frames = tt; origin = inr refl })

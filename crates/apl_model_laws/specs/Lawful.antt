@@ -13,9 +13,10 @@ use Rattle.apl_model.specs.declared.tokens.Line.{Line}
 use Rattle.apl_model.specs.declared.trees.Literal.{Literal}
 use Rattle.apl_model.specs.Call.{Routine, RoutineLine, call_within}
 use Rattle.apl_model.specs.Environment.{Environment, Bindings}
-use Rattle.apl_model.specs.Evaluation.{State, Outcome, done, fails, spent, Calls, literal_array, monadic_value, dyadic_value, value_of, positions_of, statement_flow}
+use Rattle.apl_model.specs.Evaluation.{State, Calls, literal_array, monadic_value, dyadic_value, value_of, positions_of, statement_flow}
+use Rattle.apl_model.specs.Outcome.{Outcome, done, fails, spent}
 use Rattle.apl_model.specs.Grammar.{IsLiteral, IsExpression, ArePositions, IsStatement, IsCommand}
-use Rattle.apl_model.specs.Immediate.{routine, run_items, immediate}
+use Rattle.apl_model.specs.Immediate.{of_states, routine, run_items, immediate}
 use Rattle.apl_model.specs.Product.{reduce, outer, inner}
 use Rattle.apl_model.specs.Script.{headings, IsScript}
 use Rattle.apl_model.specs.Subscript.{subscript, replacement}
@@ -69,22 +70,22 @@ ReplacementsAreLawful = (o : ℤ) (a : Array) (ps : List (Option Array)) (b : Ar
 -- ---- evaluation over lawful variables
 
 -- each name that is set has a lawful array
-abbrev pub AreBindings : Bindings → Type 0
+abbrev pub AreBindings : Bindings Array → Type 0
 AreBindings bindings = AllByRecursion (λ (b : List ℕ × Option Array). IsOptional b.1) bindings
 
-pub record IsEnvironment (e : Environment) : Type 0 where
+pub record IsEnvironment (e : Environment Array) : Type 0 where
   pub globals : AreBindings e.globals
   pub frames : AllByRecursion AreBindings e.frames
   pub origin : IsOrigin e.origin
 
 -- what comes of a part of a run: a lawful value, if there is one, and lawful variables
-abbrev pub IsOutcome : {A : Type 0} → (A → Type 0) → Outcome A → Type 0
+abbrev pub IsOutcome : {A : Type 0} → (A → Type 0) → Outcome State A → Type 0
 IsOutcome Value (done a s) = Value a × IsEnvironment s.variables
 IsOutcome Value (fails kind place s) = IsEnvironment s.variables
 IsOutcome Value (spent s) = IsEnvironment s.variables
 
 -- from lawful variables on
-abbrev pub KeepsLawful : {A : Type 0} → (A → Type 0) → (State → Outcome A) → Type 0
+abbrev pub KeepsLawful : {A : Type 0} → (A → Type 0) → (State → Outcome State A) → Type 0
 KeepsLawful Value act = (s : State) → IsEnvironment s.variables → IsOutcome Value (act s)
 
 -- a call of lawful arguments gives a lawful result, if it gives one
@@ -111,7 +112,7 @@ pub record IsRoutine (hs : List Heading) (r : Routine Statement) : Type 0 where
 -- the calls of such functions are lawful, however many more may be pending
 abbrev pub FunctionsAreLawful : Type 0
 FunctionsAreLawful = (hs : List Heading) (routines : List (Routine Statement)) → AllByRecursion (IsRoutine hs) routines →
-    (n : ℕ) → CallsAreLawful (call_within Statement statement_flow routines n)
+    (n : ℕ) → CallsAreLawful (call_within of_states statement_flow routines n)
 
 -- an item of the language
 abbrev pub IsLawfulItem : List Heading → Item → Type 0

@@ -3,8 +3,9 @@ use Rattle.std.specs.Prelude.{◌≡◌, ℕ, ◌+◌, List, Option}
 use Rattle.apl_base.specs.declared.faults.Place.{Place}
 use Rattle.apl_base.specs.Array.{Array}
 use Rattle.apl_model.specs.Call.{Routine, call_within}
-use Rattle.apl_model.specs.Evaluation.{State, Outcome, done, fails, spent, statement_flow}
-use Rattle.apl_model.specs.Immediate.{Run, Ending, well, reported, out_of_turns, run_items}
+use Rattle.apl_model.specs.Evaluation.{State, statement_flow}
+use Rattle.apl_model.specs.Outcome.{Outcome, done, fails, spent}
+use Rattle.apl_model.specs.Immediate.{of_states, Run, Ending, well, reported, out_of_turns, run_items}
 use Rattle.apl_model.specs.Tree.{Statement, Script, Item}
 use Rattle.apl_model_laws.specs.Printing.{BeginsWith}
 use Rattle.apl_model_laws.specs.Turns.{state_of}
@@ -15,21 +16,21 @@ with_more k s = record s { turns = s.turns + k }
 
 -- what comes of a part of a run with k more turns: the same, where the turns were enough; where they were spent,
 -- what is printed begins with what was printed
-abbrev pub IsContinued : {A : Type 0} → ℕ → Outcome A → Outcome A → Type 0
+abbrev pub IsContinued : {A : Type 0} → ℕ → Outcome State A → Outcome State A → Type 0
 IsContinued k (done a s) o = o ≡ done a (with_more k s)
 IsContinued k (fails kind place s) o = o ≡ fails kind place (with_more k s)
 IsContinued k (spent s) o = BeginsWith (state_of o).printed s.printed
 
-abbrev pub GoesOn : {A : Type 0} → (State → Outcome A) → Type 0
+abbrev pub GoesOn : {A : Type 0} → (State → Outcome State A) → Type 0
 GoesOn act = (k : ℕ) (s : State) → IsContinued k (act s) (act (with_more k s))
 
 -- the calls of functions go on, however many more may be pending
 abbrev pub FunctionsGoOn : Type 0
 FunctionsGoOn = (routines : List (Routine Statement)) (n : ℕ) (f : List ℕ) (place : Place) (left right : Option Array) →
-    GoesOn (call_within Statement statement_flow routines n f place left right)
+    GoesOn (call_within of_states statement_flow routines n f place left right)
 
 -- the run with k more turns: the same, where the turns were enough
-abbrev pub IsContinuedBy : Ending → ℕ → Run → Run → Type 0
+abbrev pub IsContinuedBy : Ending → ℕ → Run State → Run State → Type 0
 IsContinuedBy well k r q = q ≡ record r { state = with_more k r.state }
 IsContinuedBy reported k r q = q ≡ record r { state = with_more k r.state }
 IsContinuedBy out_of_turns k r q = BeginsWith q.state.printed r.state.printed

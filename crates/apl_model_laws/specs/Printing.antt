@@ -3,8 +3,9 @@ use Rattle.std.specs.Prelude.{◌≡◌, ℕ, List, ◌++◌, Option, encode_utf
 use Rattle.apl_base.specs.declared.faults.Place.{Place}
 use Rattle.apl_base.specs.Array.{Array}
 use Rattle.apl_model.specs.Call.{Routine, call_within}
-use Rattle.apl_model.specs.Evaluation.{State, Outcome, done, fails, spent, Calls, value_of, positions_of, statement_flow}
-use Rattle.apl_model.specs.Immediate.{run_items}
+use Rattle.apl_model.specs.Evaluation.{State, Calls, value_of, positions_of, statement_flow}
+use Rattle.apl_model.specs.Outcome.{Outcome, done, fails, spent}
+use Rattle.apl_model.specs.Immediate.{of_states, run_items}
 use Rattle.apl_model.specs.Tree.{Tree, Positions, Statement, Script, Item}
 use Rattle.apl_model_laws.specs.Turns.{state_of}
 
@@ -14,13 +15,13 @@ use Rattle.apl_model_laws.specs.Turns.{state_of}
 abbrev pub onto : List ℕ → State → State
 onto text s = record s { printed = text ++ s.printed }
 
-abbrev pub outcome_onto : {A : Type 0} → List ℕ → Outcome A → Outcome A
+abbrev pub outcome_onto : {A : Type 0} → List ℕ → Outcome State A → Outcome State A
 outcome_onto text (done a s) = done a (onto text s)
 outcome_onto text (fails kind place s) = fails kind place (onto text s)
 outcome_onto text (spent s) = spent (onto text s)
 
 -- a part of a run does the same whatever was printed before, and prints behind it
-abbrev pub PrintsBehind : {A : Type 0} → (State → Outcome A) → Type 0
+abbrev pub PrintsBehind : {A : Type 0} → (State → Outcome State A) → Type 0
 PrintsBehind act = (text : List ℕ) (s : State) → act (onto text s) ≡ outcome_onto text (act s)
 
 abbrev pub CallsPrintBehind : Calls → Type 0
@@ -37,7 +38,7 @@ StatementsPrintBehind = (calls : Calls) → CallsPrintBehind calls → (t : Stat
 
 -- the calls of functions do, however many more may be pending
 abbrev pub FunctionsPrintBehind : Type 0
-FunctionsPrintBehind = (routines : List (Routine Statement)) (n : ℕ) → CallsPrintBehind (call_within Statement statement_flow routines n)
+FunctionsPrintBehind = (routines : List (Routine Statement)) (n : ℕ) → CallsPrintBehind (call_within of_states statement_flow routines n)
 
 -- ---- what is printed stays
 
@@ -46,7 +47,7 @@ abbrev pub BeginsWith : List ℕ → List ℕ → Type 0
 BeginsWith whole front = (rest : List ℕ) × (whole ≡ front ++ rest)
 
 -- a part of a run takes back nothing that was printed before
-abbrev pub KeepsPrinted : {A : Type 0} → (State → Outcome A) → Type 0
+abbrev pub KeepsPrinted : {A : Type 0} → (State → Outcome State A) → Type 0
 KeepsPrinted act = (s : State) → BeginsWith (state_of (act s)).printed s.printed
 
 abbrev pub CallsKeepPrinted : Calls → Type 0
@@ -59,7 +60,7 @@ abbrev pub StatementsKeepPrinted : Type 0
 StatementsKeepPrinted = (calls : Calls) → CallsKeepPrinted calls → (t : Statement) → KeepsPrinted (statement_flow calls t)
 
 abbrev pub FunctionsKeepPrinted : Type 0
-FunctionsKeepPrinted = (routines : List (Routine Statement)) (n : ℕ) → CallsKeepPrinted (call_within Statement statement_flow routines n)
+FunctionsKeepPrinted = (routines : List (Routine Statement)) (n : ℕ) → CallsKeepPrinted (call_within of_states statement_flow routines n)
 
 -- what a run prints begins with what the run of its first items prints
 abbrev pub RunsBeginWithTheirPrefixes : Type 0

@@ -3,12 +3,13 @@ use Rattle.std.specs.Prelude.{◌≡◌, ℕ, ◌+◌, ◌≤◌, List, length, 
 use Rattle.apl_base.specs.declared.faults.Place.{Place}
 use Rattle.apl_base.specs.Array.{Array}
 use Rattle.apl_model.specs.Call.{Routine, call_within}
-use Rattle.apl_model.specs.Evaluation.{State, Outcome, done, fails, spent, Calls, value_of, positions_of, statement_flow}
-use Rattle.apl_model.specs.Immediate.{run_items, immediate}
+use Rattle.apl_model.specs.Evaluation.{State, Calls, value_of, positions_of, statement_flow}
+use Rattle.apl_model.specs.Outcome.{Outcome, done, fails, spent}
+use Rattle.apl_model.specs.Immediate.{of_states, run_items, immediate}
 use Rattle.apl_model.specs.Tree.{Tree, Positions, Statement, Script, Item}
 
 -- where an outcome leaves the run
-abbrev pub state_of : {A : Type 0} → Outcome A → State
+abbrev pub state_of : {A : Type 0} → Outcome State A → State
 state_of (done a s) = s
 state_of (fails kind place s) = s
 state_of (spent s) = s
@@ -23,7 +24,7 @@ pub record TakesTurns (s t : State) : Type 0 where
   pub ended : length t.ended + s.begun ≤ length s.ended + t.begun
 
 -- from each state on
-abbrev pub KeepsTurns : {A : Type 0} → (State → Outcome A) → Type 0
+abbrev pub KeepsTurns : {A : Type 0} → (State → Outcome State A) → Type 0
 KeepsTurns act = (s : State) → TakesTurns s (state_of (act s))
 
 -- each call does
@@ -43,7 +44,7 @@ StatementsKeepTurns = (calls : Calls) → CallsKeepTurns calls → (t : Statemen
 
 -- the calls of functions do, however many more may be pending
 abbrev pub FunctionsKeepTurns : Type 0
-FunctionsKeepTurns = (routines : List (Routine Statement)) (n : ℕ) → CallsKeepTurns (call_within Statement statement_flow routines n)
+FunctionsKeepTurns = (routines : List (Routine Statement)) (n : ℕ) → CallsKeepTurns (call_within of_states statement_flow routines n)
 
 -- a run of n turns begins as many statements as it takes turns, and no more end
 pub record IsWithinTurns (n : ℕ) (s : State) : Type 0 where

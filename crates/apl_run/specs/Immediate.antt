@@ -3,7 +3,7 @@ use Rattle.std.specs.Prelude.{ℕ, ◌+◌, List, [], ◌∷◌, ◌++◌, Optio
 use Rattle.std.specs.List.{flat_map, join_with_byte}
 use Rattle.apl_base.specs.declared.faults.Refusal.{Refusal}
 use Rattle.apl_base.specs.declared.faults.Cause.{Cause}
-use Rattle.apl_base.specs.declared.faults.Cause.TheVariants.{TooLong, Utf8, Character, LineLong, Number, OpenText, Header, DoubleName, OpenDefinition, NameClass, Deep, Grammar, NotBuilt}
+use Rattle.apl_base.specs.declared.faults.Cause.TheVariants.{TooLong, Utf8, LineLong, Character, Number, OpenText, Header, DoubleName, OpenDefinition, NameClass, Deep, Grammar, NotBuilt}
 use Rattle.apl_read.specs.Sums.{refusal_of, sums_of}
 use Rattle.apl_read.specs.declared.sums.Sum.{Sum}
 use Rattle.apl_read.specs.declared.sums.Sum.TheVariants.{Empty, One, Two}
@@ -33,8 +33,8 @@ printed line = value_text (value_of line)
 abbrev pub cause_text : Cause → List ℕ
 cause_text TooLong = codes "TOO LONG"
 cause_text Utf8 = codes "UTF8"
-cause_text Character = codes "CHARACTER"
 cause_text LineLong = codes "LINE LONG"
+cause_text Character = codes "CHARACTER"
 cause_text Number = codes "NUMBER"
 cause_text OpenText = codes "OPEN TEXT"
 cause_text Header = codes "HEADER"

@@ -1,7 +1,7 @@
 //! Laws of the definitions: each is the contract of a call that does nothing.
 
 ghost use Rattle.std.specs.Prelude.{◌≡◌, ℕ, ◌<◌, List, [], ◌∷◌, length, codes};
-ghost use Rattle.apl_read.specs.declared.script.TheConstants.{MOST_BYTES};
+ghost use Rattle.apl_base.specs.declared.faults.TheConstants.{MOST_BYTES};
 ghost use Rattle.apl_run.specs.Immediate.{immediate};
 ghost use Rattle.apl_run.specs.Worked.{done, refused};
 

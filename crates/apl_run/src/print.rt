@@ -66,8 +66,8 @@ fn words_of(cause: Cause) -> &'static str
     match cause {
         Cause::TooLong => "TOO LONG",
         Cause::Utf8 => "UTF8",
-        Cause::Character => "CHARACTER",
         Cause::LineLong => "LINE LONG",
+        Cause::Character => "CHARACTER",
         Cause::Number => "NUMBER",
         Cause::OpenText => "OPEN TEXT",
         Cause::Header => "HEADER",

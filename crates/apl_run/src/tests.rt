@@ -1,6 +1,7 @@
 ghost use Rattle.std.specs.Prelude.{◌<◌};
 
 use crate::aplm;
+use apl_base::MOST_BYTES;
 use apl_outside::{MemSink, MemSource};
 use std::alloc::{AllocError, Global};
 use std::process::Abort;
@@ -104,9 +105,9 @@ fn long_scripts_and_words_are_refused(rt: HostRuntime) -> Result<(), Fail> {
         piece: 65536,
         ..PLAIN
     };
-    let longest = vec![in alloc; b'\n'; 1048576]?;
+    let longest = vec![in alloc; b'\n'; MOST_BYTES]?;
     assert_left(&rt, &run(alloc, longest.as_slice(), course)?, 0, "", "");
-    let longer = vec![in alloc; b' '; 1048577]?;
+    let longer = vec![in alloc; b' '; MOST_BYTES + 1]?;
     assert_left(
         &rt,
         &run(alloc, longer.as_slice(), course)?,

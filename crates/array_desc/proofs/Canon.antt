@@ -1,18 +1,18 @@
 -- A descriptor is determined by its lengths and its numbers.
-use Rattle.std.proofs.Common.{◌≡◌, ℕ, zero, suc, ◌+◌, ◌*◌, ◌<◌, ◌≤◌, ℤ, pos, ◌+ℤ◌, ◌*ℤ◌, List, [], ◌∷◌, length, refl, ap, sym, subst, ◌∙◌, arith}
+use Rattle.std.proofs.Common.{◌≡◌, ℕ, zero, suc, ◌<◌, ◌≤◌, ℤ, pos, ◌+ℤ◌, ◌*ℤ◌, List, [], ◌∷◌, length, refl, ap, sym, subst, ◌∙◌, arith}
 use Rattle.std.specs.List.{AllByRecursion}
 use Rattle.std.proofs.lemmas.Int.{ints}
 use Rattle.apl_base.specs.Array.{IsIndex, size_of}
 use Rattle.apl_base.specs.Selection.{only_index}
-use Rattle.array_desc.specs.Desc.{DescView, IsDesc, IsZero, ShortAxesRest, dot, number}
+use Rattle.array_desc.specs.Desc.{DescView, IsDesc, ShortAxesRest, dot, number}
 use Rattle.array_desc.proofs.Indices.{index_with_size, positive}
 use Rattle.array_desc.proofs.Sums.{dot-zeros}
 
 -- two bases and lists of strides that give the same numbers
-record SameNumbers (b c : ℤ) (ss ts : List ℤ) (ns : List ℕ) : Type 0 where
-  each : (i : List ℕ) → IsIndex ns i → b +ℤ dot ss i ≡ c +ℤ dot ts i
+pub record SameNumbers (b c : ℤ) (ss ts : List ℤ) (ns : List ℕ) : Type 0 where
+  pub each : (i : List ℕ) → IsIndex ns i → b +ℤ dot ss i ≡ c +ℤ dot ts i
 
-first_same : (b c : ℤ) (ss ts : List ℤ) (ns : List ℕ) → 0 < size_of ns → SameNumbers b c ss ts ns → b ≡ c
+pub first_same : (b c : ℤ) (ss ts : List ℤ) (ns : List ℕ) → 0 < size_of ns → SameNumbers b c ss ts ns → b ≡ c
 first_same b c ss ts ns p h =
     let e = h.each (only_index ns) (index_with_size ns p) in
     omega (arith, ints, e, dot-zeros ss ns, dot-zeros ts ns)
@@ -28,7 +28,7 @@ without_first b c s t x y h = omega (arith, ints, h)
 rest_same : (b c s t : ℤ) (ss ts : List ℤ) (ns : List ℕ) (n : ℕ) → 0 < n → SameNumbers b c (s ∷ ss) (t ∷ ts) (n ∷ ns) → SameNumbers b c ss ts ns
 rest_same b c s t ss ts ns n p h = record { each = λ i q. without_first b c s t (dot ss i) (dot ts i) (h.each (0 ∷ i) (p, q)) }
 
-strides_same : (b c : ℤ) (ss ts : List ℤ) (ns : List ℕ) → length ss ≡ length ns → length ts ≡ length ns → ShortAxesRest ss ns → ShortAxesRest ts ns → 0 < size_of ns → SameNumbers b c ss ts ns → ss ≡ ts
+pub strides_same : (b c : ℤ) (ss ts : List ℤ) (ns : List ℕ) → length ss ≡ length ns → length ts ≡ length ns → ShortAxesRest ss ns → ShortAxesRest ts ns → 0 < size_of ns → SameNumbers b c ss ts ns → ss ≡ ts
 strides_same b c [] [] [] l m x y p h = refl
 strides_same b c (s ∷ ss) (t ∷ ts) (zero ∷ ns) l m x y p h = absurd (omega (arith, p))
 strides_same b c (s ∷ ss) (t ∷ ts) (suc zero ∷ ns) l m x y p h =

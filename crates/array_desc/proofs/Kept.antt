@@ -14,7 +14,7 @@ use Rattle.array_desc.proofs.Sums.{Numbers}
 abbrev pub kept : Bool → ℤ → List ℤ → List ℕ → DescView
 kept empty b ss ns = record { base = if empty then pos 0 else b; strides = paired (stride_kept empty) ss ns; shape = ns }
 
-length-kept : (empty : Bool) (ss : List ℤ) (ns : List ℕ) → length ss ≡ length ns → length (paired (stride_kept empty) ss ns) ≡ length ns
+pub length-kept : (empty : Bool) (ss : List ℤ) (ns : List ℕ) → length ss ≡ length ns → length (paired (stride_kept empty) ss ns) ≡ length ns
 length-kept empty [] [] l = refl
 length-kept empty (s ∷ ss) (n ∷ ns) l = ap suc (length-kept empty ss ns (omega (arith, l)))
 length-kept empty [] (n ∷ ns) l = absurd (omega (arith, l))
@@ -29,7 +29,7 @@ kept_term s (suc zero) zero p = omega (arith, ints)
 kept_term s (suc zero) (suc i) p = absurd (omega (arith, p))
 kept_term s (suc (suc n)) i p = rw (above_one (suc (suc n)) (omega arith)) refl
 
-dot-kept : (ss : List ℤ) (ns is : List ℕ) → IsIndex ns is → dot (paired (stride_kept false) ss ns) is ≡ dot ss is
+pub dot-kept : (ss : List ℤ) (ns is : List ℕ) → IsIndex ns is → dot (paired (stride_kept false) ss ns) is ≡ dot ss is
 dot-kept [] ns is q = refl
 dot-kept (s ∷ ss) (n ∷ ns) (i ∷ is) q = rw (kept_term s n i q.0, dot-kept ss ns is q.1) refl
 dot-kept (s ∷ ss) [] [] q = refl
@@ -44,7 +44,7 @@ number-kept empty b ss ns i e q =
     let f : empty ≡ false = e ∙ not_empty (size_of ns) (size_with_index ns i q) in
     rw (f, dot-kept ss ns i q) refl
 
-short-kept : (empty : Bool) (ss : List ℤ) (ns : List ℕ) → ShortAxesRest (paired (stride_kept empty) ss ns) ns
+pub short-kept : (empty : Bool) (ss : List ℤ) (ns : List ℕ) → ShortAxesRest (paired (stride_kept empty) ss ns) ns
 short-kept empty [] ns = tt
 short-kept empty (s ∷ ss) [] = tt
 short-kept true (s ∷ ss) (n ∷ ns) = (λ h. refl, short-kept true ss ns)

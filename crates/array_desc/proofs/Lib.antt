@@ -8,3 +8,4 @@ pub mod Places
 pub mod Maps
 pub mod Sums
 pub mod Walks
+pub mod Wholes

@@ -10,7 +10,7 @@ use Rattle.array_desc.specs.Desc.{DescView, dot, number}
 use Rattle.array_desc.specs.Steps.{IsSound, row_strides}
 use Rattle.array_desc.proofs.Sums.{Numbers, near-wraps, near-dot}
 
-length-row_strides : (ns : List ℕ) → length (row_strides ns) ≡ length ns
+pub length-row_strides : (ns : List ℕ) → length (row_strides ns) ≡ length ns
 length-row_strides [] = refl
 length-row_strides (n ∷ ns) = ap suc (length-row_strides ns)
 
@@ -18,7 +18,7 @@ pub length-wrapped : (ns : List ℕ) → length (map (int_wrap w128) (row_stride
 length-wrapped [] = refl
 length-wrapped (n ∷ ns) = ap suc (length-wrapped ns)
 
-dot-row_strides : (ns is : List ℕ) → IsIndex ns is → dot (row_strides ns) is ≡ pos (place_at ns is)
+pub dot-row_strides : (ns is : List ℕ) → IsIndex ns is → dot (row_strides ns) is ≡ pos (place_at ns is)
 dot-row_strides [] [] q = refl
 dot-row_strides (n ∷ ns) (i ∷ is) q = let e = dot-row_strides ns is q.1 in omega (arith, ints, e)
 dot-row_strides [] (i ∷ is) q = absurd q

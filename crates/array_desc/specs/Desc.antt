@@ -2,7 +2,7 @@
 use Rattle.std.specs.Prelude.{◌≡◌, ℕ, ◌<◌, ◌≤◌, ℤ, pos, ◌+ℤ◌, ◌*ℤ◌, ◌≤ℤ◌, ◌<ℤ◌, List, [], ◌∷◌, length}
 use Rattle.std.specs.List.{AllByRecursion}
 use Rattle.apl_base.specs.Number.{IsNumber}
-use Rattle.apl_base.specs.Array.{IsShape, IsIndex, size_of}
+use Rattle.apl_base.specs.Array.{IsShape, IsIndex, size_of, place_at}
 use Rattle.apl_base.specs.declared.cells.Interval.{Interval}
 use Rattle.apl_base.specs.declared.cells.Interval.TheVariants.{Empty, Span}
 
@@ -40,6 +40,12 @@ pub record IsDesc (d : DescView) : Type 0 where
   pub numbers : (i : List ℕ) → IsIndex d.shape i → IsNumber (number d i)
   pub short : ShortAxesRest d.strides d.shape
   pub empty : size_of d.shape ≡ 0 → IsZero d
+
+-- a descriptor whose numbers are the places of a shape in row-major order
+pub record IsWhole (lengths : List ℕ) (d : DescView) : Type 0 where
+  pub lawful : IsDesc d
+  pub shape : d.shape ≡ lengths
+  pub places : (i : List ℕ) → IsIndex lengths i → number d i ≡ pos (place_at lengths i)
 
 -- the new descriptor has these lengths, and at each index the number that the old one has at the index read
 pub record Selects (old new : DescView) (lengths : List ℕ) (read : List ℕ → List ℕ) : Type 0 where

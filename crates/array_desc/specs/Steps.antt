@@ -1,5 +1,5 @@
 -- The lists that the calls build, axis by axis.
-use Rattle.std.specs.Prelude.{◌≡◌, ℕ, ◌+◌, ◌-◌, ◌≤◌, min, ℤ, pos, ◌+ℤ◌, unsigned_abs, int_lt, nat_le, ◌==◌, ◌||◌, Bool, Option, Some, None, List, [], ◌∷◌, length, if◌then◌else◌}
+use Rattle.std.specs.Prelude.{◌≡◌, ℕ, ◌+◌, ◌-◌, ◌≤◌, min, ℤ, pos, ◌+ℤ◌, unsigned_abs, int_lt, nat_le, ◌==◌, ◌||◌, Bool, false, Option, Some, None, List, [], ◌∷◌, length, if◌then◌else◌}
 use Rattle.apl_base.specs.Number.{IsNumber}
 use Rattle.apl_base.specs.Array.{IsShape, IsIndex, size_of}
 use Rattle.array_desc.specs.Desc.{DescView, dot, number}
@@ -31,6 +31,11 @@ stride_kept empty s n = if empty || nat_le n 1 then pos 0 else s
 abbrev pub row_strides : List ℕ → List ℤ
 row_strides [] = []
 row_strides (n ∷ ns) = pos (size_of ns) ∷ row_strides ns
+
+-- the strides that the whole of a shape keeps, where it has an element
+abbrev pub whole_strides : List ℕ → List ℤ
+whole_strides [] = []
+whole_strides (n ∷ ns) = stride_kept false (pos (size_of ns)) n ∷ whole_strides ns
 
 -- part of each axis, from a start on, fits the lengths
 abbrev pub WindowFits : List ℕ → List ℕ → List ℕ → Type 0

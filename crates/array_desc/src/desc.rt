@@ -1,12 +1,12 @@
-ghost use Rattle.std.specs.Prelude.{◌≡◌, ℕ, ◌+◌, ◌^◌, ◌<◌, ◌≤◌, pos, ◌+ℤ◌, ◌*ℤ◌, List, [], ◌∷◌, ◌++◌, length, slice_index};
+ghost use Rattle.std.specs.Prelude.{◌≡◌, ℕ, ◌+◌, ◌^◌, ◌<◌, ◌≤◌, ◌↔◌, IsTrue, pos, ◌+ℤ◌, ◌*ℤ◌, List, [], ◌∷◌, ◌++◌, length, slice_index};
 ghost use Rattle.apl_base.specs.Array.{IsShape, IsIndex, size_of, place_at};
 ghost use Rattle.apl_base.specs.Number.{IsNumber};
-ghost use Rattle.array_desc.specs.Desc.{IsDesc, IsRangeOf, number as number_of};
+ghost use Rattle.array_desc.specs.Desc.{IsDesc, IsWhole, IsRangeOf, number as number_of};
 ghost use Rattle.array_desc.specs.Steps.{paired, end_index};
 
 use crate::lists::held_inline;
 use crate::parts::Parts;
-use crate::steps::{dot_from, end_of_axes, row_strides_of};
+use crate::steps::{are_whole_strides, dot_from, end_of_axes, row_strides_of};
 use apl_base::{Cell, Interval, Shape};
 use smallvec::SmallVec;
 use std::alloc::Global;
@@ -124,6 +124,15 @@ impl Desc {
             lo: self.number_at(self.end(false).as_slice()),
             hi: self.number_at(self.end(true).as_slice()),
         }
+    }
+
+    /// Whether the number at each index is the place of the index in row-major order, counted from 0.
+    pub fn is_whole(&self) -> bool
+        ensures whole { IsTrue result ↔ IsWhole self.now.shape self.now }
+        ensures lawful { IsDesc self.now }
+    {
+        self.size() == 0
+            || self.base == 0 && are_whole_strides(self.strides.as_slice(), self.shape.lengths())
     }
 
     // The index of the greatest number, or of the least one.

@@ -1,10 +1,10 @@
-ghost use Rattle.std.specs.Prelude.{◌≡◌, ◌≤◌, unsigned_abs, pos, ◌+ℤ◌, ◌*ℤ◌, length, map, if◌then◌else◌};
+ghost use Rattle.std.specs.Prelude.{◌≡◌, ◌^◌, ◌<◌, ◌≤◌, ◌↔◌, IsTrue, unsigned_abs, pos, ◌+ℤ◌, ◌*ℤ◌, length, map, if◌then◌else◌};
 ghost use Rattle.std.specs.Int.{int_wrap};
 ghost use mir.Syntax.{w128};
 ghost use Rattle.apl_base.specs.Array.{size_of};
 ghost use Rattle.apl_base.specs.Selection.{CountsFit};
 ghost use Rattle.array_desc.specs.Desc.{dot};
-ghost use Rattle.array_desc.specs.Steps.{paired, stride_kept, row_strides, window_start, window_length, end_index};
+ghost use Rattle.array_desc.specs.Steps.{paired, stride_kept, row_strides, whole_strides, window_start, window_length, end_index};
 
 use apl_base::Cell;
 use smallvec::SmallVec;
@@ -91,6 +91,23 @@ fn size_behind(lengths: &[u64]) -> Cell
         size = wrapped_product(size, Cell::from(*n));
     }
     size
+}
+
+/// Whether the strides are those that a descriptor of all of these lengths keeps in row-major order.
+pub fn are_whole_strides(strides: &[Cell], lengths: &[u64]) -> bool
+    requires axes { length strides.now ≡ length lengths.now }
+    requires some { 0 < size_of lengths.now }
+    requires few { size_of lengths.now ≤ 2 ^ 40 }
+    ensures { IsTrue result ↔ (strides.now ≡ whole_strides lengths.now) }
+{
+    let mut behind: u64 = 1;
+    for axis in (0..lengths.len()).rev() {
+        if strides[axis] != stride_on(false, Cell::from(behind), lengths[axis]) {
+            return false;
+        }
+        behind *= lengths[axis];
+    }
+    true
 }
 
 /// Where on each axis the part begins that a take or a drop of these counts leaves.

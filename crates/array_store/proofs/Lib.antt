@@ -1,3 +1,4 @@
 pub mod IntervalLemmas
 pub mod StoreLemmas
 pub mod FollowsLemmas
+pub mod CountingLemmas

@@ -8,7 +8,8 @@ use Rattle.apl_base.specs.declared.cells.Kind.{Kind}
 use Rattle.apl_base.specs.declared.cells.Interval.{Interval}
 use Rattle.apl_base.specs.Number.{IsCell}
 use Rattle.apl_base.specs.Interval.{InInterval, IsInterval, hull, exact_interval}
-use Rattle.array_store.specs.Stores.{OwnerView, StoreView, IsOwner, IsStore, owner_at, owner_of, holders_of, cells_of, cells_in, with_owner, without_owner, with_holders, with_cell, new_owner, no_owner}
+use Rattle.array_store.specs.Stores.{OwnerView, StoreView, IsOwner, IsStore, AreCounts, owner_at, owner_of, holders_of, cells_of, cells_in, with_owner, without_owner, with_holders, with_cell, new_owner, no_owner}
+use Rattle.array_store.specs.Counting.{OnlyCounted}
 use Rattle.array_store.proofs.IntervalLemmas.{All-exact_interval, IsInterval-exact, IsInterval-hull, InInterval-hull_new, InInterval-hull_old, IsNumber-from_cell}
 
 -- a key with an owner has a slot
@@ -54,6 +55,7 @@ IsStore-with_owner s key o p store found owner size =
       ];
       live = omega (arith, sum_by-set cells_in s.owners key (Some p) None within, ap cells_in found, store.live);
       bound = store.bound;
+      counts = store.counts;
     }
 
 -- one owner less
@@ -71,11 +73,12 @@ IsStore-without_owner s key o store found =
       ];
       live = omega (arith, gone, ap cells_in found, store.live, ap length same_cells);
       bound = omega (arith, store.bound);
+      counts = store.counts;
     }
 
 -- an owner more
-pub IsStore-added : (s t : StoreView) (key : ℕ) (o : OwnerView) → IsStore s → IsOwner o → s.live + length o.cells ≤ s.limit → owner_at s key ≡ None → owner_at t key ≡ Some o → ((other : ℕ) → other ≢ key → owner_at t other ≡ owner_at s other) → t.live ≡ s.live + length o.cells → t.limit ≡ s.limit → IsStore t
-IsStore-added s t key o store owner room was is others live limit =
+pub IsStore-added : (s t : StoreView) (key : ℕ) (o : OwnerView) → IsStore s → IsOwner o → s.live + length o.cells ≤ s.limit → owner_at s key ≡ None → owner_at t key ≡ Some o → ((other : ℕ) → other ≢ key → owner_at t other ≡ owner_at s other) → t.live ≡ s.live + length o.cells → t.limit ≡ s.limit → AreCounts t.counts → IsStore t
+IsStore-added s t key o store owner room was is others live limit counts =
     record {
       owners = λ k q there. elim (cases_eq k key) [
         | inl same ↦
@@ -86,7 +89,14 @@ IsStore-added s t key o store owner room was is others live limit =
       ];
       live = live ∙ ap (λ n. n + length o.cells) store.live ∙ sym (sum_by-added s.owners t.owners key o was is others);
       bound = omega arith;
+      counts = counts;
     }
+
+-- a store that only counted is one
+pub IsStore-counted : (s t : StoreView) → OnlyCounted s t → AreCounts t.counts → IsStore s → IsStore t
+IsStore-counted s t only counts store =
+    let held : IsStore (record s { counts = t.counts }) = record { owners = store.owners; live = store.live; bound = store.bound; counts = counts } in
+    subst IsStore (sym only) held
 
 -- an owner of lawful cells with their exact interval is lawful
 pub IsOwner-made : (cells : List ℤ) (kind : Kind) (i : Interval) → i ≡ exact_interval cells → All (IsCell kind) cells → IsOwner (record (new_owner cells kind) { interval = i })

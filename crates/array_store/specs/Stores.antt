@@ -85,11 +85,22 @@ abbrev pub cells_in : Option OwnerView → ℕ
 cells_in None = 0
 cells_in (Some o) = length o.cells
 
--- each owner is lawful, and the live cells are all their cells and at most the limit
+-- each count is below 2^64
+pub record AreCounts (c : Counts) : Type 0 where
+  pub fetched : c.fetched < 2 ^ 64
+  pub made : c.made < 2 ^ 64
+  pub applied : c.applied < 2 ^ 64
+
+-- each owner is lawful, the live cells are all their cells and at most the limit, and each count is below 2^64
 pub record IsStore (s : StoreView) : Type 0 where
   pub owners : (key : ℕ) (o : OwnerView) → owner_at s key ≡ Some o → IsOwner o
   pub live : s.live ≡ sum_by cells_in s.owners
   pub bound : s.live ≤ s.limit
+  pub counts : AreCounts s.counts
+
+-- there is room for so many cells more
+abbrev pub HasRoom : StoreView → ℕ → Type 0
+HasRoom s asked = s.live + asked ≤ s.limit
 
 -- ---- changes
 

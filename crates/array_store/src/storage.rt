@@ -1,7 +1,8 @@
 ghost use Rattle.std.specs.Prelude.{◌≡◌, ◌≢◌, ℕ, ◌+◌, ◌-◌, ◌<◌, ◌≤◌, ◌↔◌, [], length, All, IfOk, OnOk, OnErr, IsOkUnless, IsErrOf, vec_len, vec_capacity};
 ghost use Rattle.apl_base.specs.Number.{IsCell};
 ghost use Rattle.apl_base.specs.Interval.{InInterval};
-ghost use Rattle.array_store.specs.Stores.{IsOwner, IsStore, Makes, owner_of, holders_of, cells_of, kind_of, interval_of, cell_of, counted, empty_store, new_owner, with_holders, with_cell, without_owner};
+ghost use Rattle.array_store.specs.Stores.{IsOwner, IsStore, Makes, owner_of, HasRoom, holders_of, cells_of, kind_of, interval_of, cell_of, empty_store, new_owner, with_holders, with_cell, without_owner};
+ghost use Rattle.array_store.specs.Counting.{OnlyFetched, OnlyComputed, after_fetches, after_applications};
 ghost use Rattle.array_store.specs.Follows.{Follows, none, one_of};
 
 use crate::hulls::{least_to_greatest, widened};
@@ -86,10 +87,11 @@ impl Store {
     pub fn begin(&self, asked: u64) -> Result<Vec<Cell>, BeginFault>
         ensures refused { IsErrOf result (BeginFault.WsFull self.now.live asked)
             ↔ (self.now.limit < self.now.live + asked) }
-        ensures within { OnOk result (self.now.live + asked ≤ self.now.limit) }
-        ensures other { self.now.live + asked ≤ self.now.limit → IsOkUnless result BeginFault.NoMemory }
+        ensures within { OnOk result (HasRoom self.now asked) }
+        ensures other { HasRoom self.now asked → IsOkUnless result BeginFault.NoMemory }
         ensures empty { IfOk result (λ cells. cells.items ≡ []) }
         ensures room { IfOk result (λ cells. asked ≤ vec_capacity cells) }
+        ensures store { IsStore self.now }
     {
         if asked > self.limit - self.live {
             return Err(BeginFault::WsFull {
@@ -102,7 +104,7 @@ impl Store {
 
     /// Takes these cells in as a new owner with one holder. After want of memory the store is unchanged.
     pub fn make(&mut self, cells: Vec<Cell>, kind: Kind) -> Result<OwnerId, NoMemory>
-        requires room { self.old.live + vec_len cells ≤ self.old.limit }
+        requires room { HasRoom self.old (vec_len cells) }
         requires lawful { All (IsCell kind) cells.items }
         ensures made { IfOk result (λ key. Makes self.old self.new key (new_owner cells.items kind)) }
         ensures follows { IfOk result (λ key. Follows self.old self.new none (one_of key)) }
@@ -130,11 +132,11 @@ impl Store {
         // So the owner is live: no other has a cell.
         requires { place < length (cells_of self.old owner) }
         ensures value { result ≡ cell_of self.old owner place }
-        ensures counted { self.new ≡ record self.old {
-          counts = record self.old.counts { fetched = counted self.old.counts.fetched 1 };
-        } }
+        ensures counted { self.new ≡ after_fetches self.old 1 }
+        ensures only { OnlyFetched self.old self.new 1 }
         ensures lawful { IsCell (kind_of self.old owner) result }
         ensures within { InInterval (interval_of self.old owner) result }
+        ensures store { IsStore self.new }
     {
         self.counts.fetched = self.counts.fetched.saturating_add(1);
         let read = &self.owners[owner.key];
@@ -256,9 +258,9 @@ impl Store {
 
     /// Counts one scalar function applied to an element.
     pub fn count_applied(&mut self)
-        ensures { self.new ≡ record self.old {
-          counts = record self.old.counts { applied = counted self.old.counts.applied 1 };
-        } }
+        ensures counted { self.new ≡ after_applications self.old 1 }
+        ensures only { OnlyComputed self.old self.new 1 0 }
+        ensures store { IsStore self.new }
     {
         self.counts.applied = self.counts.applied.saturating_add(1);
     }

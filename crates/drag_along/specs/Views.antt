@@ -1,9 +1,9 @@
 -- Leaves that read a whole owner, and what is so of a leaf that is answered.
-use Rattle.std.specs.Prelude.{◌≡◌, ℕ, pos, List, Option, Some, None, [], ◌∷◌}
+use Rattle.std.specs.Prelude.{◌≡◌, ℕ, List, Option, Some, None, [], ◌∷◌}
 use Rattle.apl_base.specs.declared.cells.Kind.{Kind}
 use Rattle.apl_base.specs.declared.cells.Kind.TheVariants.{Num}
-use Rattle.apl_base.specs.Array.{Array, IsIndex, place_at}
-use Rattle.array_desc.specs.Desc.{DescView, number, IsDesc}
+use Rattle.apl_base.specs.Array.{Array}
+use Rattle.array_desc.specs.Desc.{DescView, IsWhole}
 use Rattle.array_store.specs.Stores.{StoreView}
 use Rattle.drag_along.specs.declared.leaves.Leaf.{Leaf}
 use Rattle.drag_along.specs.declared.leaves.Leaf.TheVariants.{Stored, Gen}
@@ -13,12 +13,6 @@ use Rattle.drag_along.specs.Nodes.{leaf_kind}
 use Rattle.drag_along.specs.Segments.{HasShape}
 use Rattle.drag_along.specs.Lawful.{IsLawfulLeaf}
 use Rattle.drag_along.specs.Meaning.{leaf_array}
-
--- a descriptor whose numbers are the places of a shape in row-major order
-pub record IsWhole (lengths : List ℕ) (d : DescView) : Type 0 where
-  pub lawful : IsDesc d
-  pub shape : d.shape ≡ lengths
-  pub places : (i : List ℕ) → IsIndex lengths i → number d i ≡ pos (place_at lengths i)
 
 -- a leaf that reads all cells of an owner, as an array of this shape and kind
 pub record IsWholeView (owner : ℕ) (lengths : List ℕ) (kind : Kind) (leaf : Leaf) : Type 0 where

@@ -15,6 +15,7 @@ use Rattle.apl_base.proofs.Sizes.{index_at-place_at, place_at-below}
 use Rattle.array_store.specs.declared.ids.Counts.{Counts}
 use Rattle.array_store.specs.Stores.{StoreView, IsStore, counted, new_owner, Makes}
 use Rattle.array_store.specs.Counting.{OnlyCounted, RoseBy, OnlyComputed, Computed}
+use Rattle.array_store.proofs.StoreLemmas.{IsStore-counted}
 use Rattle.iter_stack.proofs.Walks.{length-upward, get_or-upward}
 use Rattle.drag_along.specs.declared.leaves.Leaf.{Leaf}
 use Rattle.drag_along.specs.declared.nodes.Node.{Node}
@@ -63,11 +64,12 @@ computed_all old new functions cells small just = record {
   exact = just.applied small.applied;
 }
 
--- a store that only counted is one
-pub store_counted : (s t : StoreView) → OnlyCounted s t → IsStore s → IsStore t
-store_counted s t only h =
-    let held : IsStore (record s { counts = t.counts }) = record { owners = h.owners; live = h.live; bound = h.bound } in
-    subst IsStore (sym only) held
+-- a store that only computed is one
+pub store_computed : (s t : StoreView) (functions cells : ℕ) → ComputedUpTo s t functions cells → IsStore s → IsStore t
+store_computed s t functions cells h store =
+    let applied : t.counts.applied ≡ counted s.counts.applied h.applied = h.just.applied store.counts.applied in
+    let fetched : t.counts.fetched ≡ counted s.counts.fetched h.fetched = h.just.fetched store.counts.fetched in
+    IsStore-counted s t h.just.only (record { fetched = omega arith; made = omega (arith, h.just.made, store.counts.made); applied = omega arith }) store
 
 -- ---- leaves that stand for arrays
 

@@ -10,7 +10,7 @@ use Rattle.apl_base.specs.Array.{Array, IsIndex, size_of, index_at}
 use Rattle.apl_base.specs.Selection.{upward}
 use Rattle.apl_base.proofs.Sizes.{IsIndex-index_at, place_at-below, place_at-index_at}
 use Rattle.iter_stack.proofs.Walks.{length-upward, get_or-upward}
-use Rattle.array_desc.specs.Desc.{DescView, number}
+use Rattle.array_desc.specs.Desc.{DescView, IsWhole, number}
 use Rattle.array_store.specs.Stores.{OwnerView, StoreView, Makes, new_owner, owner_of, holders_of, cells_of, kind_of}
 use Rattle.array_store.specs.Follows.{Holds, one_of}
 use Rattle.array_store.proofs.StoreLemmas.{owner_of-found}
@@ -19,7 +19,7 @@ use Rattle.drag_along.specs.declared.leaves.Leaf.TheVariants.{Stored, Gen}
 use Rattle.drag_along.specs.Nodes.{named_by_leaf}
 use Rattle.drag_along.specs.Meaning.{leaf_cell, leaf_array}
 use Rattle.drag_along.specs.Lawful.{LiesIn, IsLawfulLeaf}
-use Rattle.drag_along.specs.Views.{IsWhole, IsWholeView, StandsForArray}
+use Rattle.drag_along.specs.Views.{IsWholeView, StandsForArray}
 
 -- a list is what it has at each place
 pub list_by_places : (f : ℕ → ℤ) (cells : List ℤ) (n : ℕ) → length cells ≡ n → ((p : ℕ) → p < n → f p ≡ get_or cells p (pos 0)) → map f (upward 0 n) ≡ cells

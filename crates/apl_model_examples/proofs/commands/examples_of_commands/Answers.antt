@@ -18,3 +18,7 @@ returns-clause-functions_are_listed_in_order_of_bytes c = refl
 pub returns-clause-an_unset_name_is_passed_over : goal.returns-clause-an_unset_name_is_passed_over
 unfolding digits encode
 returns-clause-an_unset_name_is_passed_over c = refl
+
+pub returns-clause-names_differ_at_their_first_differing_byte : goal.returns-clause-names_differ_at_their_first_differing_byte
+unfolding digits encode
+returns-clause-names_differ_at_their_first_differing_byte c = refl

@@ -33,3 +33,23 @@ returns-clause-a_second_spelling_of_membership c = refl
 pub returns-clause-more_than_the_greatest_length : goal.returns-clause-more_than_the_greatest_length
 unfolding digits
 returns-clause-more_than_the_greatest_length c = refl
+
+pub returns-clause-a_base_of_0_takes_all_that_is_left : goal.returns-clause-a_base_of_0_takes_all_that_is_left
+unfolding digits
+returns-clause-a_base_of_0_takes_all_that_is_left c = refl
+
+pub returns-clause-equal_elements_keep_their_order : goal.returns-clause-equal_elements_keep_their_order
+unfolding digits
+returns-clause-equal_elements_keep_their_order c = refl
+
+pub returns-clause-places_and_members : goal.returns-clause-places_and_members
+unfolding digits
+returns-clause-places_and_members c = refl
+
+pub returns-clause-bits_along_an_axis : goal.returns-clause-bits_along_an_axis
+unfolding digits
+returns-clause-bits_along_an_axis c = refl
+
+pub returns-clause-the_number_of_digits_in_one_base : goal.returns-clause-the_number_of_digits_in_one_base
+unfolding digits
+returns-clause-the_number_of_digits_in_one_base c = refl

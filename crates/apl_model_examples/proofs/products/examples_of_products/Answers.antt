@@ -41,3 +41,7 @@ returns-clause-a_table_of_products c = refl
 pub returns-clause-sales_by_quarter : goal.returns-clause-sales_by_quarter
 unfolding digits
 returns-clause-sales_by_quarter c = refl
+
+pub returns-clause-an_axis_in_the_middle : goal.returns-clause-an_axis_in_the_middle
+unfolding digits
+returns-clause-an_axis_in_the_middle c = refl

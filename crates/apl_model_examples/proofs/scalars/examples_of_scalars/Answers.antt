@@ -6,9 +6,9 @@ use Rattle.apl_model_examples.proofs.scalars.examples_of_scalars.Goals as goal
 pub returns-clause-trees : goal.returns-clause-trees
 returns-clause-trees c = assumption (nothing_fits, one_fits, two_fit, three_fit, four_fit, one_is_some, two_are_some, three_are_some, four_are_some)
 
-pub returns-clause-a_residue_has_the_sign_of_its_base : goal.returns-clause-a_residue_has_the_sign_of_its_base
+pub returns-clause-zero_by_zero_is_one : goal.returns-clause-zero_by_zero_is_one
 unfolding digits
-returns-clause-a_residue_has_the_sign_of_its_base c = refl
+returns-clause-zero_by_zero_is_one c = refl
 
 pub returns-clause-a_text_is_compared_character_by_character : goal.returns-clause-a_text_is_compared_character_by_character
 unfolding digits
@@ -53,3 +53,7 @@ returns-clause-unequal_lengths_of_a_name c = refl
 pub returns-clause-unequal_ranks : goal.returns-clause-unequal_ranks
 unfolding digits
 returns-clause-unequal_ranks c = refl
+
+pub returns-clause-a_residue_is_never_negative : goal.returns-clause-a_residue_is_never_negative
+unfolding digits
+returns-clause-a_residue_is_never_negative c = refl

@@ -21,3 +21,11 @@ returns-clause-a_transpose_keeps_its_value c = refl
 pub returns-clause-a_reversal_keeps_its_value : goal.returns-clause-a_reversal_keeps_its_value
 unfolding digits
 returns-clause-a_reversal_keeps_its_value c = refl
+
+pub returns-clause-each_axis_is_turned : goal.returns-clause-each_axis_is_turned
+unfolding digits
+returns-clause-each_axis_is_turned c = refl
+
+pub returns-clause-each_axis_has_a_new_place : goal.returns-clause-each_axis_has_a_new_place
+unfolding digits
+returns-clause-each_axis_has_a_new_place c = refl

@@ -37,3 +37,7 @@ returns-clause-one_element_is_a_value_of_its_own c = refl
 pub returns-clause-a_write_to_an_unset_name : goal.returns-clause-a_write_to_an_unset_name
 unfolding digits
 returns-clause-a_write_to_an_unset_name c = refl
+
+pub returns-clause-positions_of_two_axes : goal.returns-clause-positions_of_two_axes
+unfolding digits
+returns-clause-positions_of_two_axes c = refl

@@ -3,7 +3,7 @@ use Rattle.std.proofs.Common.{◌≡◌, ℕ, ◌<◌, List, length, Some, nat_l
 use Rattle.std.specs.Fmt.{digits}
 use borrow.Author.Tests.{lt-ltb}
 use Rattle.apl_read.specs.Sums.{refusal_of, sums_of, too_long}
-use Rattle.apl_read.specs.declared.script.TheConstants.{MOST_BYTES}
+use Rattle.apl_base.specs.declared.faults.TheConstants.{MOST_BYTES}
 use Rattle.apl_run.specs.Immediate.{answer_unless}
 use Rattle.apl_run.proofs.laws.long_scripts.Goals as goal
 

@@ -8,7 +8,7 @@ use Rattle.drag_along.specs.Views.{IsWholeView}
 use Rattle.apl_base.specs.declared.cells.Kind.TheVariants.{Num}
 use Rattle.apl_base.specs.Array.{size_of}
 use Rattle.e_machine.specs.Runs.{HasElements}
-use Rattle.e_machine.proofs.ForcedLemmas.{AreMachineCounts, store_counted, fault_function, answer_fault, answer_value, answer_made}
+use Rattle.e_machine.proofs.ForcedLemmas.{AreMachineCounts, store_computed, fault_function, answer_fault, answer_value, answer_made}
 use Rattle.e_machine.proofs.forcing.computed.Goals as goal
 
 -- the node that was read is the segment's node of that number
@@ -45,10 +45,10 @@ returns-then-first-len-clause-refused c =
     )
 
 pub returns-in_err-first-clause-store : goal.returns-in_err-first-clause-store
-returns-in_err-first-clause-store c = store_counted _ _ c.compute.ensures.counted.just.only c.counts-counts.ensures.store
+returns-in_err-first-clause-store c = store_computed _ _ _ _ c.compute.ensures.counted c.counts-counts.ensures.store
 
 pub returns-then-first-len-clause-store : goal.returns-then-first-len-clause-store
-returns-then-first-len-clause-store c = store_counted _ _ c.compute.ensures.counted.just.only c.counts-counts.ensures.store
+returns-then-first-len-clause-store c = store_computed _ _ _ _ c.compute.ensures.counted c.counts-counts.ensures.store
 
 -- the leaf has the shape of the segment
 whole : (key : ℕ) (inside g : SegmentView) (leaf : Leaf) → inside ≡ g → IsWholeView key inside.shape Num leaf → IsWholeView key g.shape Num leaf

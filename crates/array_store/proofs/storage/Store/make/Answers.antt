@@ -12,6 +12,7 @@ invariant_of-self-2 c =
     let live = ap (λ (s : StoreView). s.live) c.self.view_is in
     let limit = ap (λ (s : StoreView). s.limit) c.self.view_is in
     IsStore-added _ _ c.in-Ok.key _ c.self.invariant owner (omega (arith, live, limit, len, c.requires.room)) c.in-Ok.ensures.was_vacant c.in-Ok.ensures.updates.changed c.in-Ok.ensures.updates.others (omega (arith, len, c.len-count.ensures)) refl
+    (record { fetched = c.self.invariant.counts.fetched; made = omega (arith, c.saturating_add-self-inside.ensures); applied = c.self.invariant.counts.applied })
 
 pub returns-clause-store : goal.returns-clause-store
 returns-clause-store c = invariant_of-self-2 c
