@@ -1,6 +1,6 @@
 -- A script is read where both passes find no refusal, and else the first one is what they find.
 use Rattle.std.proofs.Common.{◌≡◌, ℕ, ◌≤◌, ◌^◌, length, true, List, [], ◌∷◌, Option, None, Some, refl, sym, subst}
-use Rattle.std.specs.Prelude.{map, Result, Ok, Err, IfOk}
+use Rattle.std.specs.Prelude.{map, Result, Ok, Err}
 use Rattle.std.specs.List.{IsAmong}
 use Rattle.std.specs.Str.Lossy.{utf8_valid_len}
 use Rattle.apl_base.specs.declared.faults.Cause.TheVariants as cause
@@ -82,11 +82,6 @@ module _ (ls : List Line) (f : Forms) (forms : AreForms (parts ls) f) where
 
 -- ---- A script of bytes ----
 
--- what holds of each answer
-pub ok_like : {A E : Type 0} (r : Result A E) (P Q : A → Type 0) → ((a : A) → P a → Q a) → IfOk r P → IfOk r Q
-ok_like (Ok a) P Q f h = f a h
-ok_like (Err e) P Q f h = tt
-
 pub refused_like : {A : Type 0} (r : Result A ReadFault) (P Q : Refusal → Type 0) → ((o : Refusal) → P o → Q o) → IfRefused r P → IfRefused r Q
 refused_like (Ok a) P Q f h = tt
 refused_like (Err (fault.Refused o)) P Q f h = f o h
@@ -95,6 +90,11 @@ refused_like (Err fault.NoMemory) P Q f h = tt
 pub refused_first : (A : Type 0) (x : ReadFault) (P : Refusal → Type 0) → IsRefusedFirst x P → IfRefused {A = A} (Err x) (IsFirst P)
 refused_first A (fault.Refused o) P h = h
 refused_first A fault.NoMemory P h = tt
+
+-- a refusal is passed on
+pub refused_still : {A : Type 0} (B : Type 0) (x : ReadFault) (P : Refusal → Type 0) → IfRefused {A = A} (Err x) P → IfRefused {A = B} (Err x) P
+refused_still B (fault.Refused o) P h = h
+refused_still B fault.NoMemory P h = tt
 
 module _ (bytes : List ℕ) (short : length bytes ≤ 2 ^ 20) where
   -- a refusal of reading is the first of all

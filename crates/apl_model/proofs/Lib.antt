@@ -12,3 +12,4 @@ pub mod DefinitionRows
 pub mod DepthRow
 pub mod ClassRow
 pub mod AcceptedItems
+pub mod TokenOrder

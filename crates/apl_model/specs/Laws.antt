@@ -1,9 +1,9 @@
 -- What holds of the definitions of lines, trees and refusals. Each law is the contract of a function in src/laws.
-use Rattle.std.specs.Prelude.{◌≡◌, ℕ, ◌↔◌, List, Option}
+use Rattle.std.specs.Prelude.{◌≡◌, ℕ, ◌<◌, ◌≤◌, ◌↔◌, List, [], ◌∷◌, Option}
 use Rattle.apl_base.specs.declared.faults.Refusal.{Refusal}
 use Rattle.apl_model.specs.Grammar.{IsExpression, IsStatement, IsHeader}
 use Rattle.apl_model.specs.Items.{AreLawful}
-use Rattle.apl_model.specs.Refusal.{IsReadingRefusal, IsLineRefusal, IsRefusal, IsFirst, IsAccepted}
+use Rattle.apl_model.specs.Refusal.{LineKind, StopsAt, IsReadingRefusal, IsLineRefusal, IsRefusal, IsFirst, IsAccepted}
 use Rattle.apl_model.specs.Script.{IsScript}
 use Rattle.apl_model.specs.Spelling.{Spell, spelling, statement_spelling, body_spelling, command_spelling, header_spelling}
 use Rattle.apl_model.specs.Tokens.{IsRead}
@@ -17,6 +17,19 @@ use Rattle.apl_model.specs.declared.tokens.Token.{Token}
 -- a line has at most one list of tokens
 abbrev pub OneListOfTokens : Type 0
 OneListOfTokens = (line : List ℕ) (a b : List Token) → IsRead line a → IsRead line b → a ≡ b
+
+-- tokens stand in order from a column on: each covers a column at least, and none covers one of another
+abbrev pub StandInOrder : ℕ → List Token → Type 0
+StandInOrder column [] = Unit {0}
+StandInOrder column (t ∷ ts) = (column ≤ t.from) × (t.from < t.past) × StandInOrder t.past ts
+
+-- the tokens of a line stand in order
+abbrev pub TokensInOrder : Type 0
+TokensInOrder = (line : List ℕ) (ts : List Token) → IsRead line ts → StandInOrder 1 ts
+
+-- at most one column stops a line
+abbrev pub OneStop : Type 0
+OneStop = (kind : LineKind) (hs : List Heading) (n : ℕ) (ts : List Token) (j k : ℕ) → StopsAt kind hs n ts j → StopsAt kind hs n ts k → j ≡ k
 
 -- two expressions of the language that spell the same tokens are equal
 abbrev pub OneExpression : Type 0
