@@ -57,16 +57,18 @@ number_in_order j from past z (t ∷ ts) h l i = by t.word
     by (word.Name n) = (h, l, i)
     by (word.Glyph c) = (h, l, i)
 
+-- a piece before others
+piece_in_order : (j a b : ℕ) (ps : List Piece) (v : Found) → j ≤ a → a < b → StandInOrder b (tokens_of_pieces ps) →
+    StandInOrder j (tokens_of_pieces (record { from = a; past = b; found = v } ∷ ps))
+piece_in_order j a b ps (number z) h l i = number_in_order j a b z (tokens_of_pieces ps) h l i
+piece_in_order j a b ps (text cs) h l i = (h, l, i)
+piece_in_order j a b ps (name n) h l i = (h, l, i)
+piece_in_order j a b ps (glyph g) h l i = (h, l, i)
+piece_in_order j a b ps (fault c) h l i = tokens_later j b (tokens_of_pieces ps) (omega arith) i
+
 tokens_in_order : (j : ℕ) (ps : List Piece) → InOrder j ps → StandInOrder j (tokens_of_pieces ps)
 tokens_in_order j [] i = tt
-tokens_in_order j (record { from = from; past = past; found = number z } ∷ ps) i =
-    number_in_order j from past z (tokens_of_pieces ps) i.0 i.1 (tokens_in_order past ps i.2)
-tokens_in_order j (record { from = from; past = past; found = text cs } ∷ ps) i = (i.0, i.1, tokens_in_order past ps i.2)
-tokens_in_order j (record { from = from; past = past; found = name n } ∷ ps) i = (i.0, i.1, tokens_in_order past ps i.2)
-tokens_in_order j (record { from = from; past = past; found = glyph g } ∷ ps) i = (i.0, i.1, tokens_in_order past ps i.2)
-tokens_in_order j (record { from = from; past = past; found = fault c } ∷ ps) i =
-    let a = i.0 in let b = i.1 in
-    tokens_later j past (tokens_of_pieces ps) (omega arith) (tokens_in_order past ps i.2)
+tokens_in_order j (p ∷ ps) i = piece_in_order j p.from p.past ps p.found i.0 i.1 (tokens_in_order p.past ps i.2)
 
 pub line_in_order : (line : List ℕ) (ts : List Token) → IsRead line ts → StandInOrder 1 ts
 line_in_order line ts r = subst (λ v. StandInOrder 1 v) r.same (tokens_in_order 1 (pieces_after 0 1 line) (pieces_in_order 0 1 line))

@@ -1,10 +1,11 @@
 -- The refusals of a script, the first of them, and the scripts that are accepted.
-use Rattle.std.specs.Prelude.{◌≡◌, ℕ, zero, suc, ◌+◌, ◌<◌, ◌≤◌, ◌^◌, ◌==◌, ◌&&◌, ◌⊎◌, true, false, if◌then◌else◌, nat_lt, List, [], ◌∷◌, ◌++◌, length, slice_get, Option, Some, None}
+use Rattle.std.specs.Prelude.{◌≡◌, ℕ, zero, suc, ◌+◌, ◌<◌, ◌≤◌, ◌==◌, ◌&&◌, ◌⊎◌, true, false, if◌then◌else◌, nat_lt, List, [], ◌∷◌, ◌++◌, length, slice_get, Option, Some, None}
 use Rattle.std.specs.List.{IsAmong}
 use Rattle.std.specs.Str.Lossy.{utf8_valid_len}
 use Rattle.apl_base.specs.declared.faults.Cause.{Cause}
 use Rattle.apl_base.specs.declared.faults.Cause.TheVariants as cause
 use Rattle.apl_base.specs.declared.faults.Refusal.{Refusal}
+use Rattle.apl_base.specs.declared.faults.TheConstants.{MOST_BYTES}
 use Rattle.apl_model.specs.Characters.{is_one_of}
 use Rattle.apl_model.specs.Grammar.{IsStatement, IsCommand, IsHeader, IsLabel}
 use Rattle.apl_model.specs.Lines.{readable, without_mark, lines_of}
@@ -242,7 +243,7 @@ pub data IsLineRefusal (ls : List Line) (r : Refusal) : Type 0 where
 
 -- a refusal of a script of bytes
 pub data IsRefusal (bytes : List ℕ) (r : Refusal) : Type 0 where
-  too_long : 2 ^ 20 < length bytes → r ≡ refusal cause.TooLong 0 0 → IsRefusal bytes r
+  too_long : MOST_BYTES < length bytes → r ≡ refusal cause.TooLong 0 0 → IsRefusal bytes r
   of_reading : IsReadingRefusal bytes r → IsRefusal bytes r
   of_lines : IsLineRefusal (lines_of bytes) r → IsRefusal bytes r
 
@@ -301,10 +302,10 @@ IsFirstIfAny Refuses (Some r) = IsFirst Refuses r
 
 -- ---- Accepted scripts ----
 
--- an accepted script of bytes has at most 2^20 of them, all of them UTF-8; each line has at most 1,000
+-- an accepted script of bytes has at most MOST_BYTES of them, all of them UTF-8; each line has at most 1,000
 -- characters and is read; the lines have a tree; no line is too deep, and the rules of names are kept
 pub record IsAccepted (bytes : List ℕ) (s : Script) : Type 0 where
-  pub short : length bytes ≤ 2 ^ 20
+  pub short : length bytes ≤ MOST_BYTES
   pub whole : utf8_valid_len bytes ≡ length bytes
   pub lines : (l : Line) → IsAmong (lines_of bytes) l → (length l.text ≤ 1000) × IsRead l.text l.tokens
   pub tree : IsScript (lines_of bytes) s

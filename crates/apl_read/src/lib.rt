@@ -15,6 +15,6 @@ mod script_lines;
 mod script_tokens;
 mod sums;
 
-pub use script::{MOST_BYTES, read_script};
+pub use script::read_script;
 pub use script_tokens::tokens;
 pub use sums::Sum;

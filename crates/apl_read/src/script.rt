@@ -8,12 +8,9 @@ use crate::columns::refuse;
 use crate::script_lines::characters_of;
 use crate::script_tokens::tokens;
 use crate::sums::{Sum, read_sum};
-use apl_base::{Cause, NoMemory};
+use apl_base::{Cause, MOST_BYTES, NoMemory};
 use apl_model::{Line, ReadFault, Text};
 use std::alloc::Global;
-
-/// The most bytes that a script may have.
-pub const MOST_BYTES: usize = 1_048_576;
 
 /// What the text of a line says, where it is of the form.
 fn sum_of_text(alloc: Global, text: &Text) -> Result<Option<Sum>, NoMemory>
