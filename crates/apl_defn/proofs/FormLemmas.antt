@@ -1,6 +1,6 @@
 -- What the first pass finds, with one part more.
 use Rattle.std.proofs.Common.{◌≡◌, ℕ, true, false, List, [], ◌∷◌, ◌++◌, Option, None, Some, ◌⊎◌, inl, inr, ◌↔◌, refl, sym, ap, subst, ◌∙◌, append_assoc, append-nil}
-use Rattle.std.specs.Prelude.{slice_get, if◌then◌else◌}
+use Rattle.std.specs.Prelude.{slice_get, length, if◌then◌else◌}
 use Rattle.std.specs.List.{IsAmong}
 use Rattle.apl_base.specs.declared.faults.Cause.TheVariants as cause
 use Rattle.apl_base.specs.declared.faults.Refusal.{Refusal}
@@ -9,6 +9,7 @@ use Rattle.apl_model.proofs.Rows.{one_stop, before_after}
 use Rattle.apl_model.proofs.Unique.{one_header}
 use Rattle.apl_model.specs.Refusal.{refusal, first_line, StopsAt, Heads, order, IsFirstIfAny}
 use Rattle.apl_model.specs.Script.{Part, alone, defined, parts, IsHeadOf}
+use Rattle.apl_model.specs.Spelling.{before_own_name}
 use Rattle.apl_model.specs.declared.scripts.Header.{Header}
 use Rattle.apl_model.specs.declared.tokens.Line.{Line}
 use Rattle.apl_model.specs.declared.tokens.Token.{Token}

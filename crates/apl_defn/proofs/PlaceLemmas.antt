@@ -1,6 +1,6 @@
 -- Names at their places: one place after the other.
 use Rattle.std.proofs.Common.{◌≡◌, ℕ, ◌+◌, ◌<◌, ◌≤◌, true, List, [], ◌∷◌, ◌++◌, length, take, drop, get_or, Option, None, Some, ◌⊎◌, inl, inr, ◌↔◌, refl, sym, ap, subst, ◌∙◌, append_assoc, append-nil, arith}
-use Rattle.std.specs.Prelude.{codes}
+use Rattle.std.specs.Prelude.{codes, ◌&&◌, false, if◌then◌else◌}
 use Rattle.std.specs.List.{IsAmong}
 use Rattle.std.proofs.lemmas.List.{take_more, take_all}
 use Rattle.apl_base.specs.declared.faults.Cause.TheVariants as cause
@@ -16,7 +16,7 @@ use Rattle.apl_defn.specs.Earliest.{earlier}
 use Rattle.apl_defn.specs.NameRules.{IsRepeated, IsHeading, IsErased, IsDeclared}
 use Rattle.apl_defn.specs.Occurrences.{at_most_one, IsNamed, IsWrong, IsMetAgain}
 use Rattle.apl_defn.specs.declared.occurrences.Occurrence as found
-use Rattle.apl_model.specs.Script.{is_glyph_token}
+use Rattle.apl_model.specs.Script.{is_glyph_token, is_name_token}
 use Rattle.apl_defn.specs.Occurrences.{IsAssignedFirst}
 
 -- ---- Members of two lists ----

@@ -1,10 +1,11 @@
 -- A script is read where both passes find no refusal, and else the first one is what they find.
-use Rattle.std.proofs.Common.{◌≡◌, ℕ, ◌≤◌, ◌^◌, length, true, List, [], ◌∷◌, Option, None, Some, refl, sym, subst}
+use Rattle.std.proofs.Common.{◌≡◌, ℕ, ◌≤◌, length, true, List, [], ◌∷◌, Option, None, Some, refl, sym, subst}
 use Rattle.std.specs.Prelude.{map, Result, Ok, Err}
 use Rattle.std.specs.List.{IsAmong}
 use Rattle.std.specs.Str.Lossy.{utf8_valid_len}
 use Rattle.apl_base.specs.declared.faults.Cause.TheVariants as cause
 use Rattle.apl_base.specs.declared.faults.Refusal.{Refusal}
+use Rattle.apl_base.specs.declared.faults.TheConstants.{MOST_BYTES}
 use Rattle.apl_model.proofs.Accepted.{part_from}
 use Rattle.apl_model.specs.Mirror.{item_of}
 use Rattle.apl_model.proofs.Rows.{first_in_reading, first_in_lines}
@@ -91,12 +92,7 @@ pub refused_first : (A : Type 0) (x : ReadFault) (P : Refusal → Type 0) → Is
 refused_first A (fault.Refused o) P h = h
 refused_first A fault.NoMemory P h = tt
 
--- a refusal is passed on
-pub refused_still : {A : Type 0} (B : Type 0) (x : ReadFault) (P : Refusal → Type 0) → IfRefused {A = A} (Err x) P → IfRefused {A = B} (Err x) P
-refused_still B (fault.Refused o) P h = h
-refused_still B fault.NoMemory P h = tt
-
-module _ (bytes : List ℕ) (short : length bytes ≤ 2 ^ 20) where
+module _ (bytes : List ℕ) (short : length bytes ≤ MOST_BYTES) where
   -- a refusal of reading is the first of all
   pub reading_refused : (r : Refusal) → IsFirst (IsReadingRefusal bytes) r → IsFirst (IsRefusal bytes) r
   reading_refused r h = first_in_reading bytes r short (reading_phase bytes r h.refuses) h.refuses h.first
