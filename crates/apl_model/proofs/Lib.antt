@@ -13,3 +13,4 @@ pub mod DepthRow
 pub mod ClassRow
 pub mod AcceptedItems
 pub mod TokenOrder
+pub mod TokenSlices

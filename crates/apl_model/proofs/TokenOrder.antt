@@ -8,7 +8,7 @@ use Rattle.apl_model.specs.declared.tokens.Word.{Word}
 use Rattle.apl_model.specs.declared.tokens.Word.TheVariants as word
 
 -- the same of pieces
-abbrev InOrder : ℕ → List Piece → Type 0
+abbrev pub InOrder : ℕ → List Piece → Type 0
 InOrder column [] = Unit {0}
 InOrder column (p ∷ ps) = (column ≤ p.from) × (p.from < p.past) × InOrder p.past ps
 
@@ -16,7 +16,7 @@ later : (j k : ℕ) (ps : List Piece) → j ≤ k → InOrder k ps → InOrder j
 later j k [] h i = tt
 later j k (p ∷ ps) h i = let l = i.0 in (omega arith, i.1, i.2)
 
-pieces_in_order : (n k : ℕ) (cs : List ℕ) → InOrder (k + n) (pieces_after n k cs)
+pub pieces_in_order : (n k : ℕ) (cs : List ℕ) → InOrder (k + n) (pieces_after n k cs)
 pieces_in_order zero k [] = tt
 pieces_in_order (suc n) k [] = tt
 pieces_in_order (suc n) k (c ∷ cs) =
@@ -66,7 +66,7 @@ piece_in_order j a b ps (name n) h l i = (h, l, i)
 piece_in_order j a b ps (glyph g) h l i = (h, l, i)
 piece_in_order j a b ps (fault c) h l i = tokens_later j b (tokens_of_pieces ps) (omega arith) i
 
-tokens_in_order : (j : ℕ) (ps : List Piece) → InOrder j ps → StandInOrder j (tokens_of_pieces ps)
+pub tokens_in_order : (j : ℕ) (ps : List Piece) → InOrder j ps → StandInOrder j (tokens_of_pieces ps)
 tokens_in_order j [] i = tt
 tokens_in_order j (p ∷ ps) i = piece_in_order j p.from p.past ps p.found i.0 i.1 (tokens_in_order p.past ps i.2)
 

@@ -1,5 +1,5 @@
 //! What holds of the definitions. Each function does nothing: its contract is a law.
-ghost use Rattle.apl_model.specs.Laws.{OneListOfTokens, TokensInOrder, OneStop, OneExpression, OneStatement, OneBodyLine, OneCommand, OneHeader, OneScript, OneFirstRefusal, OneFirstReadingRefusal, OneFirstLineRefusal, AcceptedExactly, AcceptedItems};
+ghost use Rattle.apl_model.specs.Laws.{OneListOfTokens, TokensInOrder, TokensAreSlices, OneStop, OneExpression, OneStatement, OneBodyLine, OneCommand, OneHeader, OneScript, OneFirstRefusal, OneFirstReadingRefusal, OneFirstLineRefusal, AcceptedExactly, AcceptedItems};
 
 /// A line has at most one list of tokens.
 pub fn one_list_of_tokens()
@@ -9,6 +9,11 @@ pub fn one_list_of_tokens()
 /// The tokens of a line stand in order, and none covers a column of another.
 pub fn tokens_in_order()
     ensures { TokensInOrder }
+{}
+
+/// Each token's text is its slice of the line.
+pub fn tokens_are_slices()
+    ensures { TokensAreSlices }
 {}
 
 /// At most one column stops a line.

@@ -21,7 +21,7 @@ pub use functions::{Axis, DyaFn, MonFn};
 pub use laws::{
     accepted_exactly, accepted_items, one_body_line, one_command, one_expression,
     one_first_line_refusal, one_first_reading_refusal, one_first_refusal, one_header,
-    one_list_of_tokens, one_script, one_statement, one_stop, tokens_in_order,
+    one_list_of_tokens, one_script, one_statement, one_stop, tokens_are_slices, tokens_in_order,
 };
 pub use outlines::{Outline, OutlineBody, OutlineItem, OutlineLine};
 pub use scripts::{BodyLine, Command, Definition, Header, Script, ScriptItem};
