@@ -1,10 +1,11 @@
 -- The lengths of a transpose: grouped by the axes of the result, each length of the argument stands once.
 use Rattle.std.proofs.Common.{◌≡◌, ◌==◌, ℕ, zero, suc, ◌+◌, ◌*◌, ◌^◌, ◌<◌, ◌≤◌, Bool, true, false, if◌then◌else◌, List, [], ◌∷◌, length, map, get_or, refl, ap, ◌∙◌, arith}
-use Rattle.std.specs.List.{AllByRecursion}
+use Rattle.std.specs.List.{AllByRecursion, Contains}
+use borrow.Author.Count.{below_more}
 use Rattle.std.proofs.Math.Nat.{mul-le-mul}
 use Rattle.apl_base.specs.Array.{IsShape, size_of}
 use Rattle.apl_base.specs.Selection.{AreAxes, axes_rank, least, lengths_at, upward, transpose_shape}
-use Rattle.apl_base.proofs.Tests.{eqb-same, eqb-other, eqb-passed}
+use Rattle.apl_base.proofs.Booleans.{eqb-same, eqb-other, eqb-passed}
 use Rattle.apl_base.proofs.Upward.{length-map-upward, all-map-upward}
 
 -- a number below one is below the next
@@ -144,3 +145,15 @@ transposed_shape axes ns x l s =
       each = all-map-upward (λ n. n ≤ 2 ^ 40) f 0 k (λ r low high. least_within (2 ^ 40) (lengths_at r axes ns) (lengths_within (2 ^ 40) r axes ns s.each));
       product = omega (arith, a, b, s.product);
     }
+
+-- ---- axes of worked examples, number by number
+
+-- each number below k is in the list
+abbrev pub HoldsBelow : ℕ → List ℕ → Type 0
+HoldsBelow zero axes = Unit {0}
+HoldsBelow (suc k) axes = Contains axes k × HoldsBelow k axes
+
+-- then each is
+pub each_held : (k : ℕ) (axes : List ℕ) → HoldsBelow k axes → (r : ℕ) → r < k → Contains axes r
+each_held zero axes h r p = absurd (omega (arith, p))
+each_held (suc k) axes h r p = below_more (λ n. Contains axes n) k (each_held k axes h.1) h.0 r (omega (arith, p))

@@ -1,12 +1,15 @@
 -- The numbers from one on upwards, and what a function gives at them.
-use Rattle.std.proofs.Common.{◌≡◌, ℕ, zero, suc, ◌+◌, ◌<◌, ◌≤◌, List, [], ◌∷◌, ◌++◌, length, map, get_or, refl, ap, ◌∙◌, arith}
+use Rattle.std.proofs.Common.{◌≡◌, ℕ, zero, suc, ◌+◌, ◌<◌, ◌≤◌, List, ◌∷◌, ◌++◌, length, map, get_or, refl, sym, ap, ◌∙◌, arith}
+use Rattle.std.proofs.lemmas.List.{ext_get_or}
 use Rattle.std.specs.List.{AllByRecursion}
 use Rattle.apl_base.specs.Selection.{upward}
 
+-- n numbers
 pub length-upward : (a n : ℕ) → length (upward a n) ≡ n
 length-upward a zero = refl
 length-upward a (suc n) = ap suc (length-upward (suc a) n)
 
+-- the number at a place
 pub get_or-upward : (a n k d : ℕ) → k < n → get_or (upward a n) k d ≡ a + k
 get_or-upward a zero k d h = absurd (omega arith)
 get_or-upward a (suc n) zero d h = omega arith
@@ -33,10 +36,12 @@ all-upward P a (suc n) h = (h a (omega arith) (omega arith), all-upward P (suc a
 
 -- ---- a function at them
 
+-- as many results as numbers
 pub length-map-upward : {X : Type 0} (f : ℕ → X) (a n : ℕ) → length (map f (upward a n)) ≡ n
 length-map-upward f a zero = refl
 length-map-upward f a (suc n) = ap suc (length-map-upward f (suc a) n)
 
+-- the result at a place is that of the number there
 pub get_or-map-upward : {X : Type 0} (f : ℕ → X) (a n k : ℕ) (d : X) → k < n → get_or (map f (upward a n)) k d ≡ f (a + k)
 get_or-map-upward f a zero k d h = absurd (omega arith)
 get_or-map-upward f a (suc n) zero d h = let e : a ≡ a + 0 = omega arith in ap f e
@@ -60,3 +65,10 @@ map-upward-same f g a (suc n) h =
     let here : f a ≡ g a = h a (omega arith) (omega arith) in
     let rest : map f (upward (suc a) n) ≡ map g (upward (suc a) n) = map-upward-same f g (suc a) n (λ p low high. h p (omega arith) (omega arith)) in
     cc
+
+-- a list is what it has at each place
+pub list_by_places : {X : Type 0} (f : ℕ → X) (xs : List X) (n : ℕ) (d : X) → length xs ≡ n → ((p : ℕ) → p < n → f p ≡ get_or xs p d) → map f (upward 0 n) ≡ xs
+list_by_places f xs n d count each =
+    ext_get_or d (map f (upward 0 n)) xs (length-map-upward f 0 n ∙ sym count) (λ p below.
+    let within : p < n = omega (arith, below, length-map-upward f 0 n) in
+    get_or-map-places f n p d within ∙ each p within)

@@ -17,7 +17,9 @@ pub use examples::{
     monadic_examples, truth_examples,
 };
 pub use faults::{Cause, ErrorKind, MOST_BYTES, NoMemory, Place, Refusal, TooLarge};
-pub use laws::{defined_laws, index_laws, row_major_laws, shape_examples, tabulation_laws};
+pub use laws::{
+    defined_laws, index_examples, index_laws, row_major_laws, shape_examples, tabulation_laws,
+};
 pub use names::Name;
 pub use rows::{Dya, Mon};
 pub use selection_examples::{

@@ -1,3 +1,4 @@
+pub mod Agreement
 pub mod Bridge
 pub mod Machine
 pub mod Complete
@@ -14,3 +15,5 @@ pub mod ClassRow
 pub mod AcceptedItems
 pub mod TokenOrder
 pub mod TokenSlices
+pub mod Mapped
+pub mod Every

@@ -1,3 +1,4 @@
+pub mod Agreement
 pub mod Call
 pub mod Characters
 pub mod Environment
@@ -11,6 +12,7 @@ pub mod Laws
 pub mod Lift
 pub mod Lines
 pub mod Made
+pub mod Mapped
 pub mod Mirror
 pub mod Order
 pub mod Outcome

@@ -2,6 +2,8 @@
 //! contracts of the machine cite.
 #![tactic(auto)]
 
+mod agreements;
+mod environments;
 mod examples;
 mod faults;
 mod functions;
@@ -12,6 +14,10 @@ mod texts;
 mod tokens;
 mod trees;
 
+pub use agreements::{
+    evaluations_agree, runs_agree, runs_over_values_agree, translated_runs_agree,
+};
+pub use environments::{frames_are_mapped, variables_are_mapped};
 pub use examples::{
     refusals_of_bytes_and_characters, refusals_of_definitions, refusals_of_lines,
     tokens_of_ten_lines, trees_of_fifteen_lines,

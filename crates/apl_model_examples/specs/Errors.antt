@@ -88,3 +88,12 @@ the_right_one_of_two_failing_quotients = script ("A←7 6" ∷ "B←1 0" ∷ "(A
     (parenthesis (dyadic (two.Scalar dya.Div) (name "A" (at 3 2)) (number 2 (at 3 4)) (at 3 3)) (at 3 1))
     (dyadic (two.Scalar dya.Div) (number 1 (at 3 7)) (name "B" (at 3 9)) (at 3 8)) (at 3 6)))
     ∷ [])
+
+-- an axis far beyond the rank is no axis, and nothing is counted up to it
+abbrev pub an_axis_far_beyond_the_rank : Script
+an_axis_far_beyond_the_rank = script ("1000000000000000000000000000000000000 2⍉1 1⍴5" ∷ [])
+    (statement_item 1
+    (expression
+    (dyadic two.Transpose (numbers (1000000000000000000000000000000000000 ∷ 2 ∷ []) (at 1 1))
+    (dyadic two.Reshape (numbers (1 ∷ 1 ∷ []) (at 1 41)) (number 5 (at 1 45)) (at 1 44)) (at 1 40)))
+    ∷ [])

@@ -19,7 +19,10 @@ positions_are_evaluated_from_the_last = script ("A←2 3⍴⍳6"
     ∷ statement_item 2 (expression
     (subscript
     (name "A" (at 2 1))
-    (positions (given (output (number 1 (at 2 5)) (at 2 3)) ∷ given (output (number 2 (at 2 9)) (at 2 7)) ∷ [])) (at 2 2)))
+    (positions
+    (given (output (number 1 (at 2 5)) (at 2 3))
+    ∷ given (output (number 2 (at 2 9)) (at 2 7))
+    ∷ [])) (at 2 2)))
     ∷ statement_item 3 (expression
     (writes "A"
     (positions (given (output (number 2 (at 3 5)) (at 3 3)) ∷ given (output (number 3 (at 3 9)) (at 3 7)) ∷ []))
@@ -46,7 +49,7 @@ positions_are_evaluated_from_the_last = script ("A←2 3⍴⍳6"
 -- the right argument of a call comes first; the statements of a call end before the one that made it; one that an error
 -- ends has ended, and so have those that it was begun in, from the innermost outwards
 abbrev pub a_failed_statement_ends_too : Script
-a_failed_statement_ends_too = script ("∇Z←X F Y" ∷ "Z←X" ∷ "Z←X÷Y" ∷ "∇" ∷ "2+(⎕←4) F ⎕←2" ∷ "3 F 0" ∷ "8" ∷ [])
+a_failed_statement_ends_too = script ("∇Z←X F Y" ∷ "Z←X" ∷ "Z←X÷Y" ∷ "∇" ∷ "2+(⎕←4) F ⎕←2" ∷ "(⎕←3) F ⎕←0" ∷ "8" ∷ [])
     (definition 1 4 (header (Some (codes "Z")) (Some (codes "X")) "F" (Some (codes "Y")) [])
     (body_line 2 unlabelled (expression (sets "Z" (name "X" (at 2 3)) (at 2 1)))
     ∷ body_line 3 unlabelled (expression
@@ -58,6 +61,9 @@ a_failed_statement_ends_too = script ("∇Z←X F Y" ∷ "Z←X" ∷ "Z←X÷Y" 
     (calls "F"
     (given (parenthesis (output (number 4 (at 5 6)) (at 5 4)) (at 5 3)))
     (given (output (number 2 (at 5 13)) (at 5 11))) (at 5 9)) (at 5 2)))
-    ∷ statement_item 6 (expression (calls "F" (given (number 3 (at 6 1))) (given (number 0 (at 6 5))) (at 6 3)))
+    ∷ statement_item 6 (expression
+    (calls "F"
+    (given (parenthesis (output (number 3 (at 6 4)) (at 6 2)) (at 6 1)))
+    (given (output (number 0 (at 6 11)) (at 6 9))) (at 6 7)))
     ∷ statement_item 7 (expression (number 8 (at 7 1)))
     ∷ [])

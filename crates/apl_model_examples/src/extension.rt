@@ -13,7 +13,8 @@ pub fn examples_of_extension()
         ∷ script.a_scalar_is_taken_with_lengths_of_1
         ∷ script.one_element_goes_to_all_places
         ∷ []) }
-    ensures a_table_of_one_element_does_not_extend { RunsThrough script.a_table_of_one_element_does_not_extend
+    ensures a_table_of_one_element_does_not_extend { RunsThrough
+        script.a_table_of_one_element_does_not_extend
         ("LENGTH ERROR" ∷ "      1 0 1/1 1⍴5" ∷ "           ^"
         ∷ "LENGTH ERROR" ∷ "      1 0 1\\1 1⍴5" ∷ "           ^"
         ∷ "LENGTH ERROR" ∷ "      1 2 3+.×1 1⍴5" ∷ "            ^"
@@ -24,7 +25,8 @@ pub fn examples_of_extension()
         ("5 5" ∷ "5 0 5" ∷ "7 8" ∷ "30" ∷ "30" ∷ "" ∷ "1 1" ∷ "1" ∷ "6 7 8" ∷ "" ∷ "0" ∷ "" ∷ ""
         ∷ [])
         well [] (one_by_one 13) }
-    ensures a_scalar_is_taken_with_lengths_of_1 { RunsThrough script.a_scalar_is_taken_with_lengths_of_1
+    ensures a_scalar_is_taken_with_lengths_of_1 { RunsThrough
+        script.a_scalar_is_taken_with_lengths_of_1
         ("5 0 0" ∷ "0 5" ∷ "0 0" ∷ "1 0" ∷ "5" ∷ [])
         well [] (one_by_one 4) }
     ensures one_element_goes_to_all_places { RunsThrough script.one_element_goes_to_all_places

@@ -13,7 +13,8 @@ pub fn examples_of_frames()
         ∷ script.a_branch_names_the_next_line
         ∷ script.a_value_that_is_needed
         ∷ []) }
-    ensures a_name_is_set_in_the_innermost_frame_that_declares_it { RunsThrough script.a_name_is_set_in_the_innermost_frame_that_declares_it
+    ensures a_name_is_set_in_the_innermost_frame_that_declares_it { RunsThrough
+        script.a_name_is_set_in_the_innermost_frame_that_declares_it
         ("20 2" ∷ "20" ∷ [])
         well (is_set "Y" (number_scalar 20) ∷ [])
         ((2, 2) ∷ (7, 4) ∷ (8, 5) ∷ (3, 3) ∷ (4, 6) ∷ (10, 1) ∷ (11, 7) ∷ []) }

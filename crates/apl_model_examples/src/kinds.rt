@@ -11,10 +11,12 @@ pub fn examples_of_kinds()
         (script.what_is_reduced_keeps_its_kind_along_length_1
         ∷ script.nothing_gives_a_catenation_no_kind
         ∷ []) }
-    ensures what_is_reduced_keeps_its_kind_along_length_1 { RunsThrough script.what_is_reduced_keeps_its_kind_along_length_1
+    ensures what_is_reduced_keeps_its_kind_along_length_1 { RunsThrough
+        script.what_is_reduced_keeps_its_kind_along_length_1
         ("AB" ∷ "A" ∷ "0 0" ∷ "  " ∷ "0 0" ∷ [])
         well [] (one_by_one 5) }
-    ensures nothing_gives_a_catenation_no_kind { RunsThrough script.nothing_gives_a_catenation_no_kind
+    ensures nothing_gives_a_catenation_no_kind { RunsThrough
+        script.nothing_gives_a_catenation_no_kind
         ("1" ∷ "1" ∷ "  " ∷ "0 0" ∷ "0 0" ∷ "0" ∷ [])
         well [] (one_by_one 6) }
 {}

@@ -10,7 +10,8 @@ pub fn examples_of_layouts()
     ensures trees { AreTheirTexts
         (script.an_empty_line_stands_between_two_planes
         ∷ []) }
-    ensures an_empty_line_stands_between_two_planes { RunsThrough script.an_empty_line_stands_between_two_planes
+    ensures an_empty_line_stands_between_two_planes { RunsThrough
+        script.an_empty_line_stands_between_two_planes
         ("1   2" ∷ "3   4" ∷ "" ∷ "5   6" ∷ "7 100" ∷ "AB" ∷ "" ∷ "CD" ∷ "" ∷ "EF" ∷ "" ∷ "GH" ∷ ""
         ∷ "¯12" ∷ [])
         well [] (one_by_one 7) }

@@ -22,9 +22,11 @@ pub fn examples_of_sums()
         "11 12 13\n2 4 6\n" well (is_set "A" (number_vector (1 ∷ 2 ∷ 3 ∷ [])) ∷ []) }
     ensures the_right_argument_comes_first { Runs script.the_right_argument_comes_first
         "8 10 12\n" well (is_set "A" (number_vector (4 ∷ 5 ∷ 6 ∷ [])) ∷ []) }
-    ensures an_assignment_leaves_earlier_values_alone { Runs script.an_assignment_leaves_earlier_values_alone
+    ensures an_assignment_leaves_earlier_values_alone { Runs
+        script.an_assignment_leaves_earlier_values_alone
         "6 8\n5 6\n" well (is_set "A" (number_vector (5 ∷ 6 ∷ [])) ∷ []) }
-    ensures an_assignment_prints_in_parentheses_alone { Runs script.an_assignment_prints_in_parentheses_alone
+    ensures an_assignment_prints_in_parentheses_alone { Runs
+        script.an_assignment_prints_in_parentheses_alone
         "2 3\n1\n" well (is_set "A" (number_scalar 1) ∷ []) }
     ensures an_output_prints_its_value_once { Runs script.an_output_prints_its_value_once
         "3\n" well (is_set "A" (number_vector (1 ∷ 2 ∷ 3 ∷ [])) ∷ []) }

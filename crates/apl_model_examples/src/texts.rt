@@ -12,7 +12,10 @@ pub fn examples_of_texts()
         ∷ script.columns_are_right_justified
         ∷ script.an_empty_vector_prints_an_empty_line
         ∷ []) }
-    ensures a_doubled_quote_is_one_quote { Runs script.a_doubled_quote_is_one_quote "IT'S\n\n2\n AB\n" well [] }
-    ensures columns_are_right_justified { Runs script.columns_are_right_justified "10  ¯3\n 4 500\n" well [] }
-    ensures an_empty_vector_prints_an_empty_line { Runs script.an_empty_vector_prints_an_empty_line "\n" well [] }
+    ensures a_doubled_quote_is_one_quote { Runs script.a_doubled_quote_is_one_quote
+        "IT'S\n\n2\n AB\n" well [] }
+    ensures columns_are_right_justified { Runs script.columns_are_right_justified
+        "10  ¯3\n 4 500\n" well [] }
+    ensures an_empty_vector_prints_an_empty_line { Runs script.an_empty_vector_prints_an_empty_line
+        "\n" well [] }
 {}

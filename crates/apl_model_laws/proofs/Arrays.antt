@@ -1,6 +1,5 @@
 -- Lawful arrays: how they are made.
-use Rattle.std.proofs.Common.{◌≡◌, ℕ, zero, suc, ◌+◌, ◌^◌, ◌<◌, ◌≤◌, Bool, true, false, ◌&&◌, leb, ℤ, pos, ◌+ℤ◌, List, [], ◌∷◌, ◌++◌, length, map, set, replicate, Option, Some, None, Ok, IfSome, refl, sym, ap, subst, ◌∙◌, inl, inr, arith}
-use Rattle.std.specs.Prelude.{slice_index_or}
+use Rattle.std.proofs.Common.{◌≡◌, ℕ, ◌^◌, ◌≤◌, Bool, true, false, not, ◌&&◌, leb, ℤ, pos, ◌+ℤ◌, List, [], ◌∷◌, length, Option, Some, None, Ok, refl, ◌∙◌, inl, inr, arith}
 use Rattle.std.specs.List.{AllByRecursion, list_all}
 use Rattle.std.proofs.lemmas.List.{length-map}
 use Rattle.std.proofs.lemmas.Bool.{leb-true, le-leb}
@@ -9,94 +8,24 @@ use Rattle.apl_base.specs.declared.cells.Kind.{Kind}
 use Rattle.apl_base.specs.declared.cells.Kind.TheVariants.{Num, Char}
 use Rattle.apl_base.specs.declared.cells.Elem.{Elem}
 use Rattle.apl_base.specs.declared.faults.ErrorKind.{ErrorKind}
-use Rattle.apl_base.specs.Array.{Array, IsArray, IsShape, size_of, cell_at, index_at, place_at}
+use Rattle.apl_base.specs.declared.faults.ErrorKind.TheVariants as error
+use Rattle.apl_base.specs.Array.{Array, IsArray, IsShape, size_of, cell_at, place_at}
+use Rattle.apl_base.specs.Elements.{element, elements, numbers, tabulated, gathered}
 use Rattle.apl_base.specs.Number.{IsNumber, IsCell}
-use Rattle.apl_base.specs.Selection.{upward}
+use Rattle.apl_base.proofs.Elements.{tabulated-count, tabulated-each}
+use Rattle.apl_base.proofs.Lists.{all_imp, all_map, all_at}
+use Rattle.apl_base.proofs.Numbers.{IsNumber-small}
+use Rattle.apl_base.proofs.Booleans.{both_parts, not-false, list_all-each, each-list_all}
 use Rattle.scalar_table.specs.Row.{IsElement, IsNumberElement}
-use Rattle.apl_model.specs.Whole.{Answer, is_shape, error_if, limit_or, within_limit, or_domain, all_defined, cons_defined, numbers, element, elements, first, indices, tabulated, selected, vector, scalar, fill}
+use Rattle.apl_model.specs.Whole.{Answer, is_shape, error_if, error_or, within_limit, or_domain, first, vector, scalar, fill}
 use Rattle.apl_model_laws.specs.Lawful.{IsAnswer, IsOrigin, ShapesAreTested}
-
--- ---- lists
-
-pub all_each : {X : Type 0} (P : X → Type 0) (xs : List X) → ((x : X) → P x) → AllByRecursion P xs
-all_each P [] h = tt
-all_each P (x ∷ xs) h = (h x, all_each P xs h)
-
-pub all_imp : {X : Type 0} (P Q : X → Type 0) (xs : List X) → ((x : X) → P x → Q x) → AllByRecursion P xs → AllByRecursion Q xs
-all_imp P Q [] h a = tt
-all_imp P Q (x ∷ xs) h a = (h x a.0, all_imp P Q xs h a.1)
-
-pub all_map : {X Y : Type 0} (P : Y → Type 0) (f : X → Y) (xs : List X) → AllByRecursion (λ x. P (f x)) xs → AllByRecursion P (map f xs)
-all_map P f [] h = tt
-all_map P f (x ∷ xs) h = (h.0, all_map P f xs h.1)
-
--- each of the values of a function is so, wherever it is taken
-pub all_mapped : {X Y : Type 0} (P : Y → Type 0) (f : X → Y) (xs : List X) → ((x : X) → P (f x)) → AllByRecursion P (map f xs)
-all_mapped P f [] h = tt
-all_mapped P f (x ∷ xs) h = (h x, all_mapped P f xs h)
-
-pub all_append : {X : Type 0} (P : X → Type 0) (xs ys : List X) → AllByRecursion P xs → AllByRecursion P ys → AllByRecursion P (xs ++ ys)
-all_append P [] ys a b = b
-all_append P (x ∷ xs) ys a b = (a.0, all_append P xs ys a.1 b)
-
-pub all_replicate : {X : Type 0} (P : X → Type 0) (n : ℕ) (x : X) → P x → AllByRecursion P (replicate n x)
-all_replicate P zero x h = tt
-all_replicate P (suc n) x h = (h, all_replicate P n x h)
-
-pub all_at : {X : Type 0} (P : X → Type 0) (xs : List X) (i : ℕ) (d : X) → AllByRecursion P xs → P d → P (slice_index_or xs i d)
-all_at P [] i d h e = e
-all_at P (x ∷ xs) zero d h e = h.0
-all_at P (x ∷ xs) (suc i) d h e = all_at P xs i d h.1 e
-
-pub all_set : {X : Type 0} (P : X → Type 0) (xs : List X) (i : ℕ) (x : X) → AllByRecursion P xs → P x → AllByRecursion P (set xs i x)
-all_set P [] i x h e = tt
-all_set P (y ∷ xs) zero x h e = (e, h.1)
-all_set P (y ∷ xs) (suc i) x h e = (h.0, all_set P xs i x h.1 e)
-
-pub length-upward : (a n : ℕ) → length (upward a n) ≡ n
-length-upward a zero = refl
-length-upward a (suc n) = ap suc (length-upward (suc a) n)
-
-pub upward-below : (a n m : ℕ) → a + n ≤ m → AllByRecursion (λ p. p < m) (upward a n)
-upward-below a zero m h = tt
-upward-below a (suc n) m h = (omega (arith, h), upward-below (suc a) n m (omega (arith, h)))
-
-pub length-indices : (ns : List ℕ) → length (indices ns) ≡ size_of ns
-length-indices ns = length-map (upward 0 (size_of ns)) (index_at ns) ∙ length-upward 0 (size_of ns)
-
--- a value where each is defined
-pub all_defined-each : {X : Type 0} (P : X → Type 0) (os : List (Option X)) (xs : List X) → AllByRecursion (λ o. IfSome o P) os → all_defined os ≡ Some xs →
-    (length xs ≡ length os) × AllByRecursion P xs
-all_defined-each P [] xs h e = let f : [] ≡ xs = cc in (ap length (sym f), subst (λ l. AllByRecursion P l) f tt)
-all_defined-each {X = X} P (o ∷ os) xs h e = by o (all_defined os) h.0 (λ ys f. all_defined-each P os ys h.1 f) e
-  where
-    by : (o : Option X) (r : Option (List X)) → IfSome o P → ((ys : List X) → r ≡ Some ys → (length ys ≡ length os) × AllByRecursion P ys) →
-        cons_defined o r ≡ Some xs → (length xs ≡ suc (length os)) × AllByRecursion P xs
-    by (Some x) (Some ys) p q e =
-        let f : x ∷ ys ≡ xs = cc in
-        (ap length (sym f) ∙ ap suc (q ys refl).0, subst (λ l. AllByRecursion P l) f (p, (q ys refl).1))
-    by (Some x) None p q e = absurd cc
-    by None (Some ys) p q e = absurd cc
-    by None None p q e = absurd cc
 
 -- ---- tests
 
-pub split : (p q : Bool) → p && q ≡ true → (p ≡ true) × (q ≡ true)
-split true q h = (refl, h)
-split false q h = absurd cc
-
-pub list_all-each : {X : Type 0} (p : X → Bool) (xs : List X) → list_all p xs ≡ true → AllByRecursion (λ x. p x ≡ true) xs
-list_all-each p [] h = tt
-list_all-each p (x ∷ xs) h = let s = split (p x) (list_all p xs) h in (s.0, list_all-each p xs s.1)
-
-each-list_all : {X : Type 0} (p : X → Bool) (xs : List X) → AllByRecursion (λ x. p x ≡ true) xs → list_all p xs ≡ true
-each-list_all p [] h = refl
-each-list_all p (x ∷ xs) h = rw h.0 (each-list_all p xs h.1)
-
 is_shape-makes : (ns : List ℕ) → is_shape ns ≡ true → IsShape ns
 is_shape-makes ns h =
-    let s = split (leb (length ns) 8 && list_all (λ n. leb n (2 ^ 40)) ns) (leb (size_of ns) (2 ^ 40)) h in
-    let t = split (leb (length ns) 8) (list_all (λ n. leb n (2 ^ 40)) ns) s.0 in
+    let s = both_parts (leb (length ns) 8 && list_all (λ n. leb n (2 ^ 40)) ns) (leb (size_of ns) (2 ^ 40)) h in
+    let t = both_parts (leb (length ns) 8) (list_all (λ n. leb n (2 ^ 40)) ns) s.0 in
     record {
       rank = leb-true (length ns) 8 t.0;
       each = all_imp (λ n. leb n (2 ^ 40) ≡ true) (λ n. n ≤ 2 ^ 40) ns (λ n. leb-true n (2 ^ 40)) (list_all-each (λ n. leb n (2 ^ 40)) ns t.1);
@@ -126,12 +55,12 @@ pub error_if-gives : (e : ErrorKind) (b : Bool) (next : Answer) → (b ≡ false
 error_if-gives e true next h = record { answer = tt }
 error_if-gives e false next h = h refl
 
-limit_or-gives : (b : Bool) (make : Unit {0} → Answer) → (b ≡ true → Gives (make tt)) → Gives (limit_or b make)
-limit_or-gives true make h = h refl
-limit_or-gives false make h = record { answer = tt }
+pub error_or-gives : (e : ErrorKind) (b : Bool) (make : Unit {0} → Answer) → (b ≡ false → Gives (make tt)) → Gives (error_or e b make)
+error_or-gives e true make h = record { answer = tt }
+error_or-gives e false make h = h refl
 
 pub within-gives : (ns : List ℕ) (make : Unit {0} → Answer) → (IsShape ns → Gives (make tt)) → Gives (within_limit ns make)
-within-gives ns make h = limit_or-gives (is_shape ns) make (λ e. h (is_shape-makes ns e))
+within-gives ns make h = error_or-gives error.Limit (not (is_shape ns)) make (λ e. h (is_shape-makes ns (not-false (is_shape ns) e)))
 
 pub domain-gives : {X : Type 0} (o : Option X) (make : X → Array) → ((x : X) → o ≡ Some x → IsArray (make x)) → Gives (or_domain o make)
 domain-gives None make h = record { answer = tt }
@@ -139,15 +68,12 @@ domain-gives (Some x) make h = record { answer = h x refl }
 
 -- ---- cells
 
-pub small_number : (n : ℕ) → n ≤ 2 ^ 40 + 1 → IsNumber (pos n)
-small_number n h = record { least = omega (arith, ints); most = omega (arith, ints) }
-
 pub zero_cell : (k : Kind) → IsCell k (pos 0)
-zero_cell Num = small_number 0 (omega arith)
+zero_cell Num = IsNumber-small 0 (omega arith)
 zero_cell Char = refl
 
 pub fill_cell : (k : Kind) → IsCell k (fill k)
-fill_cell Num = small_number 0 (omega arith)
+fill_cell Num = IsNumber-small 0 (omega arith)
 fill_cell Char = refl
 
 -- the cell at any list of numbers is lawful, within the array or not
@@ -169,12 +95,12 @@ counted-number o h p l =
 pub tabulated-array : (k : Kind) (ns : List ℕ) (cell : List ℕ → ℤ) → IsShape ns → ((i : List ℕ) → IsCell k (cell i)) → IsArray (tabulated k ns cell)
 tabulated-array k ns cell s h = record {
   shape = s;
-  count = length-map (indices ns) cell ∙ length-indices ns;
-  cells = all_mapped (IsCell k) cell (indices ns) h;
+  count = tabulated-count k ns cell;
+  cells = tabulated-each (IsCell k) k ns cell (λ i _. h i);
 }
 
-pub selected-array : (ns : List ℕ) (read : List ℕ → List ℕ) (a : Array) → IsShape ns → AllByRecursion (IsCell a.kind) a.cells → IsArray (selected ns read a)
-selected-array ns read a s h = tabulated-array a.kind ns (λ i. cell_at a (read i)) s (λ i. cell_at-lawful a h (read i))
+pub gathered-array : (ns : List ℕ) (read : List ℕ → List ℕ) (a : Array) → IsShape ns → AllByRecursion (IsCell a.kind) a.cells → IsArray (gathered ns read a)
+gathered-array ns read a s h = tabulated-array a.kind ns (λ i. cell_at a (read i)) s (λ i. cell_at-lawful a h (read i))
 
 pub one_axis : (n : ℕ) → n ≤ 2 ^ 40 → IsShape (n ∷ [])
 one_axis n h = record { rank = omega arith; each = (h, tt); product = omega (arith, h) }

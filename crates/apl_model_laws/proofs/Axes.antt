@@ -1,14 +1,13 @@
 -- What transposes, compressions, expansions and encodings give is lawful.
-use Rattle.std.proofs.Common.{◌≡◌, ℕ, zero, suc, ◌+◌, ◌*◌, ◌/◌, ◌^◌, ◌<◌, ◌≤◌, Bool, true, false, not, ◌&&◌, ◌||◌, ◌==◌, if◌then◌else◌, leb, ℤ, pos, negsuc, ◌-ℤ◌, int_le, unsigned_abs, List, [], ◌∷◌, ◌++◌, length, map, get_or, set, replicate, reverse, Option, Some, None, IfSome, refl, sym, ap, subst, ◌∙◌, inl, inr, arith, length-append}
+use Rattle.std.proofs.Common.{◌≡◌, ℕ, zero, suc, ◌*◌, ◌/◌, ◌^◌, ◌≤◌, Bool, true, false, not, ◌&&◌, ◌||◌, ◌==◌, if◌then◌else◌, leb, ℤ, pos, negsuc, ◌-ℤ◌, unsigned_abs, List, [], ◌∷◌, ◌++◌, length, map, get_or, set, replicate, reverse, Option, Some, None, IfSome, refl, sym, ap, subst, ◌∙◌, inl, inr, arith, length-append}
 use Rattle.std.specs.Prelude.{slice_index_or, slice_index, slice_set}
-use Rattle.std.specs.List.{AllByRecursion, Contains, list_all, list_any}
+use Rattle.std.specs.List.{AllByRecursion, flat_map}
 use Rattle.std.specs.Option.{option_map}
 use Rattle.std.specs.Ordering.{int_eq}
 use Rattle.std.specs.Int.{int_div_euclid}
 use Rattle.std.proofs.Math.Nat.{mul-le-mul_left, mul-le-mul_right, div-le_self}
 use Rattle.std.proofs.lemmas.List.{length-map, length-replicate, length-reverse, length-set, reverse-append}
 use Rattle.std.proofs.lemmas.Bool.{leb-true, eqb-true}
-use Rattle.std.proofs.lemmas.Bool.Decides.{nat_tests}
 use Rattle.std.proofs.lemmas.Int.{ints}
 use Rattle.apl_base.specs.declared.cells.Kind.TheVariants.{Num}
 use Rattle.apl_base.specs.declared.faults.ErrorKind.TheVariants as error
@@ -16,15 +15,21 @@ use Rattle.apl_base.specs.declared.rows.Dya.TheVariants as dya
 use Rattle.apl_base.specs.Array.{Array, IsArray, IsShape, size_of}
 use Rattle.apl_base.specs.Number.{IsNumber, IsCell}
 use Rattle.apl_base.specs.Scalar.{residue}
-use Rattle.apl_base.specs.Selection.{AreAxes, axes_rank, upward, transpose_shape, transpose_index}
+use Rattle.apl_base.specs.Selection.{upward, transpose_shape, transpose_index}
+use Rattle.apl_base.proofs.Elements.{all_defined-each}
+use Rattle.apl_base.proofs.Lists.{all_imp, all_map, all_append, all_replicate, all_at}
 use Rattle.apl_base.proofs.Sizes.{size_of-append}
+use Rattle.apl_base.proofs.Numbers.{IsNumber-small}
+use Rattle.apl_base.proofs.Booleans.{both_parts, neither_part, not-false}
+use Rattle.apl_base.proofs.Transposes.{transposed_shape}
+use Rattle.apl_base.proofs.Upward.{length-upward}
 use Rattle.scalar_table.specs.LawfulNumbers.{of_numbers-lawful}
 use Rattle.apl_model.specs.declared.functions.Axis.{Axis}
-use Rattle.apl_model.specs.Made.{is_above_one, are_bits, flipped, less_origin, are_axes, transposed, read_or_fill, ones_from, extended_to, bits_along, compress, ones, spaced, expand, carried, cons_digit, digits, digit_rows, columns_of, flat, encode}
+use Rattle.apl_model.specs.Made.{is_above_one, are_bits, flipped, less_origin, are_axes, transposed, read_or_fill, ones_from, extended_to, bits_along, compress, ones, spaced, expand, carried, cons_digit, digits, digit_rows, columns_of, encode}
 use Rattle.apl_model.specs.Whole.{rank, count, is_single, is_text, is_extendable, first, vector}
-use Rattle.apl_model_laws.proofs.Arrays.{all_imp, all_map, all_append, all_replicate, all_at, length-upward, all_defined-each, split, list_all-each, Gives, gives, error_if-gives, within-gives, domain-gives, small_number, zero_cell, first-lawful, tabulated-array, selected-array, one_axis}
-use Rattle.apl_model_laws.proofs.Transposes.{transposed_shape}
-use Rattle.apl_model_laws.proofs.Forms.{IsAxisOf, axis-gives, not-false, or-false, numbers-of, read-lawful}
+use Rattle.apl_model_laws.proofs.Arrays.{Gives, gives, error_if-gives, error_or-gives, within-gives, domain-gives, zero_cell, first-lawful, tabulated-array, gathered-array, one_axis}
+use Rattle.apl_model_laws.proofs.TestedAxes.{axes-are}
+use Rattle.apl_model_laws.proofs.Forms.{IsAxisOf, axis-gives, numbers-of, read-lawful}
 
 -- ---- transposes
 
@@ -44,56 +49,22 @@ all-reverse P (n ∷ ns) h =
     subst (λ l. AllByRecursion P l) (sym e) (all_append P (reverse ns) (n ∷ []) (all-reverse P ns h.1) (h.0, tt))
 
 pub flipped-gives : (b : Array) → IsArray b → Gives (flipped b)
-flipped-gives b h = gives _ (selected-array (reverse b.shape) reverse b (record {
+flipped-gives b h = gives _ (gathered-array (reverse b.shape) reverse b (record {
   rank = omega (arith, length-reverse b.shape, h.shape.rank);
   each = all-reverse (λ n. n ≤ 2 ^ 40) b.shape h.shape.each;
   product = omega (arith, size_of-reverse b.shape, h.shape.product);
 }) h.cells)
-
-axes-below : (axes : List ℕ) (k : ℕ) → axes_rank axes ≤ k → AllByRecursion (λ a. a < k) axes
-axes-below [] k h = tt
-axes-below (a ∷ axes) k h = (omega (arith, h), axes-below axes k (omega (arith, h)))
-
--- a number that a test finds is among them
-found-among : (axes : List ℕ) (r : ℕ) → list_any (λ a. a == r) axes ≡ true → Contains axes r
-found-among [] r h = absurd cc
-found-among (a ∷ axes) r h = by (found-among axes r) (a == r) refl h
-  where
-    by : (list_any (λ a. a == r) axes ≡ true → Contains axes r) → (t : Bool) → (a == r) ≡ t → t || list_any (λ a. a == r) axes ≡ true → Contains (a ∷ axes) r
-    by more true e h = (0, omega arith, eqb-true a r e)
-    by more false e h = let c = more h in (suc c.0, omega (arith, c.1), c.2)
-
-at-least : (a r : ℕ) → a ≤ r → leb (suc a) r ≡ false → a ≡ r
-at-least a r l e = grind (arith, nat_tests)
-
-all-upward : (P : ℕ → Type 0) (a n r : ℕ) → AllByRecursion P (upward a n) → a ≤ r → r < a + n → P r
-all-upward P a zero r h l u = absurd (omega (arith, l, u))
-all-upward P a (suc n) r h l u = by (all-upward P (suc a) n r h.1) (leb (suc a) r) refl
-  where
-    by : (suc a ≤ r → r < suc a + n → P r) → (t : Bool) → leb (suc a) r ≡ t → P r
-    by more true e = more (leb-true (suc a) r e) (omega (arith, u))
-    by more false e = let f : a ≡ r = at-least a r l e in subst P f h.0
-
-axes-are : (zs : List ℤ) → are_axes zs ≡ true → AreAxes (axes_rank (map unsigned_abs zs)) (map unsigned_abs zs)
-axes-are zs h =
-    let axes = map unsigned_abs zs in
-    let k = axes_rank axes in
-    let s = split (list_all (int_le (pos 0)) zs) (list_all (λ r. list_any (λ a. a == r) axes) (upward 0 k)) h in
-    record {
-      below = axes-below axes k (omega arith);
-      each = λ r p. found-among axes r (all-upward (λ r. list_any (λ a. a == r) axes ≡ true) 0 k r (list_all-each (λ r. list_any (λ a. a == r) axes) (upward 0 k) s.1) (omega arith) (omega (arith, p)));
-    }
 
 pub transposed-gives : (o : ℤ) (a b : Array) → IsArray a → IsArray b → Gives (transposed o a b)
 transposed-gives o a b g h =
     let zs = less_origin o a in
     let axes = map unsigned_abs zs in
     error_if-gives error.Rank (is_above_one a) _ (λ _. error_if-gives error.Length (not (count a == rank b)) _ (λ e.
-    error_if-gives error.Domain (is_text a || not (are_axes zs)) _ (λ f.
+    error_or-gives error.Domain (is_text a || not (are_axes zs)) _ (λ f.
     let l : count a ≡ rank b = eqb-true (count a) (rank b) (not-false (count a == rank b) e) in
     let m : length axes ≡ length b.shape = length-map zs unsigned_abs ∙ length-map a.cells (λ z. z -ℤ o) ∙ g.count ∙ l in
-    let t = not-false (are_axes zs) (or-false (is_text a) (not (are_axes zs)) f).1 in
-    gives _ (selected-array (transpose_shape axes b.shape) (transpose_index axes) b (transposed_shape axes b.shape (axes-are zs t) m h.shape) h.cells))))
+    let t = not-false (are_axes zs) (neither_part (is_text a) (not (are_axes zs)) f).1 in
+    gives _ (gathered-array (transpose_shape axes b.shape) (transpose_index axes) b (transposed_shape axes b.shape (axes-are zs t).1 m h.shape) h.cells))))
 
 -- ---- compressions and expansions
 
@@ -126,7 +97,7 @@ shortened ns k m h s = record {
 -- an argument that extends has no axis but the first
 extendable-axis : (b : Array) (k : ℕ) → is_extendable b ≡ true → IsAxisOf (rank b) k → k ≡ 0
 extendable-axis b k e h =
-    let l = leb-true (rank b) 1 (split (is_single b) (leb (rank b) 1) e).1 in
+    let l = leb-true (rank b) 1 (both_parts (is_single b) (leb (rank b) 1) e).1 in
     elim h [ inl p ↦ omega (arith, l, p) | inr q ↦ q.1 ]
 
 extended-shape : (n : ℕ) (b : Array) → n ≤ 2 ^ 40 → IsArray b → IsShape (extended_to n b).shape
@@ -167,7 +138,7 @@ compress-gives o axis a b g h =
     let bits = bits_along (slice_index c.shape k) a in
     let places = ones_from 0 bits in
     let l : length places ≤ get_or c.shape k 0 = omega (arith, ones_from-length 0 bits, bits-length k a b g x e) in
-    gives _ (selected-array (slice_set c.shape k (length places)) (λ is. slice_set is k (slice_index places (slice_index is k))) c
+    gives _ (gathered-array (slice_set c.shape k (length places)) (λ is. slice_set is k (slice_index places (slice_index is k))) c
     (shortened c.shape k (length places) l (extended-shape (count a) b (h-small) h)) (extended-cells (count a) b h))))))
   where
     h-small : count a ≤ 2 ^ 40
@@ -186,7 +157,7 @@ expand-gives o axis a b h =
 -- ---- encodings
 
 int-zero : (t : Bool) (z : ℤ) → IsNumber z → IsNumber (if t then pos 0 else z)
-int-zero true z h = small_number 0 (omega arith)
+int-zero true z h = IsNumber-small 0 (omega arith)
 int-zero false z h = h
 
 quotient-number : (b : ℤ) (n : ℕ) → IsNumber b → IsNumber (int_div_euclid b (pos n))
@@ -220,20 +191,20 @@ column-lawful bases b h n = by (digits bases b) (digits-lawful bases b h n)
     by None q = tt
     by (Some s) q = q.digits
 
-flat-length : (bases : List ℤ) (columns : List (List ℤ)) (is : List ℕ) → length (flat (map (digit_rows bases columns) is)) ≡ length is * length columns
+flat-length : (bases : List ℤ) (columns : List (List ℤ)) (is : List ℕ) → length (flat_map (digit_rows bases columns) is) ≡ length is * length columns
 flat-length bases columns [] = omega arith
 flat-length bases columns (i ∷ is) =
     let row = digit_rows bases columns i in
-    let rest = flat (map (digit_rows bases columns) is) in
+    let rest = flat_map (digit_rows bases columns) is in
     let l = length-append row rest in
     let m : length row ≡ length columns = length-map columns (λ ds. slice_index_or ds i (pos 0)) in
     let n = flat-length bases columns is in
     l ∙ rw (m, n) (omega arith)
 
-flat-lawful : (bases : List ℤ) (columns : List (List ℤ)) → AllByRecursion (AllByRecursion IsNumber) columns → (is : List ℕ) → AllByRecursion IsNumber (flat (map (digit_rows bases columns) is))
+flat-lawful : (bases : List ℤ) (columns : List (List ℤ)) → AllByRecursion (AllByRecursion IsNumber) columns → (is : List ℕ) → AllByRecursion IsNumber (flat_map (digit_rows bases columns) is)
 flat-lawful bases columns h [] = tt
 flat-lawful bases columns h (i ∷ is) =
-    all_append IsNumber (digit_rows bases columns i) (flat (map (digit_rows bases columns) is))
+    all_append IsNumber (digit_rows bases columns i) (flat_map (digit_rows bases columns) is)
     (all_map IsNumber (λ ds. slice_index_or ds i (pos 0)) columns (all_imp (AllByRecursion IsNumber) (λ ds. IsNumber (slice_index_or ds i (pos 0))) columns (λ ds p. all_at IsNumber ds i (pos 0) p (zero_cell Num)) h))
     (flat-lawful bases columns h is)
 
@@ -242,7 +213,7 @@ encode-gives a b g h =
     let ns = a.shape ++ b.shape in
     error_if-gives error.Rank (is_above_one a || is_above_one b) _ (λ _. within-gives ns _ (λ s.
     error_if-gives error.Domain (is_text a || is_text b) _ (λ e.
-    let t = or-false (is_text a) (is_text b) e in
+    let t = neither_part (is_text a) (is_text b) e in
     let column : ℤ → Option (List ℤ) = λ z. option_map (λ (s : List ℤ × ℤ). s.0) (digits a.cells z) in
     domain-gives (columns_of a b) _ (λ columns f.
     let d = all_defined-each (AllByRecursion IsNumber) (map column b.cells) columns

@@ -1,5 +1,5 @@
 -- What the functions that are no scalar functions give is lawful.
-use Rattle.std.proofs.Common.{◌≡◌, ℕ, zero, suc, ◌+◌, ◌-◌, ◌%◌, ◌^◌, ◌<◌, ◌≤◌, Bool, true, false, not, ◌&&◌, ◌||◌, ◌==◌, if◌then◌else◌, ℤ, pos, negsuc, ◌+ℤ◌, ◌-ℤ◌, ◌*ℤ◌, ◌≤ℤ◌, ◌<ℤ◌, int_le, int_lt, unsigned_abs, List, [], ◌∷◌, ◌++◌, length, map, replicate, remove, Option, Some, None, IfSome, refl, ap, subst, ◌∙◌, ◌⊎◌, inl, inr, arith, length-append}
+use Rattle.std.proofs.Common.{◌≡◌, ℕ, zero, suc, ◌+◌, ◌-◌, ◌%◌, ◌^◌, ◌<◌, ◌≤◌, Bool, true, false, not, ◌&&◌, ◌||◌, ◌==◌, if◌then◌else◌, ℤ, pos, ◌+ℤ◌, ◌-ℤ◌, ◌*ℤ◌, int_le, int_lt, unsigned_abs, List, [], ◌∷◌, ◌++◌, length, map, replicate, remove, Option, Some, None, IfSome, refl, ap, subst, ◌∙◌, ◌⊎◌, inl, inr, arith, length-append}
 use Rattle.std.specs.Prelude.{slice_index_or, nat_eq}
 use Rattle.std.specs.List.{AllByRecursion, list_any, position_or_len}
 use Rattle.std.specs.Cmp.Lexicographic.{pointwise}
@@ -15,26 +15,24 @@ use Rattle.apl_base.specs.declared.cells.Elem.{Elem}
 use Rattle.apl_base.specs.declared.faults.ErrorKind.TheVariants as error
 use Rattle.apl_base.specs.declared.rows.Dya.TheVariants as dya
 use Rattle.apl_base.specs.Array.{Array, IsArray, size_of}
+use Rattle.apl_base.specs.Elements.{element, elements, all_defined}
 use Rattle.apl_base.specs.Number.{IsNumber, IsCell}
 use Rattle.apl_base.specs.Scalar.{is_same, is_same_kind, truth, in_range}
 use Rattle.apl_base.specs.Selection.{upward, reverse_index, drop_shape, drop_index}
+use Rattle.apl_base.proofs.Integers.{magnitude-below}
+use Rattle.apl_base.proofs.Lists.{all_imp, all_map, all_mapped, all_append, all_replicate, all_at}
+use Rattle.apl_base.proofs.Numbers.{IsNumber-small}
+use Rattle.apl_base.proofs.Booleans.{both_parts, neither_part, not-false}
+use Rattle.apl_base.proofs.Upward.{length-upward, length-map-upward, all-upward}
 use Rattle.scalar_table.specs.LawfulNumbers.{truth-lawful, of_numbers-lawful}
 use Rattle.apl_model.specs.declared.functions.Axis.{Axis}
 use Rattle.apl_model.specs.declared.functions.Axis.TheVariants.{Last, First, Numbered}
 use Rattle.apl_model.specs.Made.{is_above_one, are_counts, counted_from, on_axis, interval, shape_of, reshape, ravel, joined_kind, kinds_differ, catenate, reversed, turn, turned_index, rotated, taken_shape, taken_places, read_or_fill, with_shape, take_or_pad, drop_from, index_of, member, comes_first, place_in, in_order, grade, decoded, matched, decode}
-use Rattle.apl_model.specs.Whole.{Answer, rank, count, is_single, is_empty, is_text, is_char, elements, element, first, vector, all_defined}
+use Rattle.apl_model.specs.Whole.{Answer, rank, count, is_single, is_empty, is_text, is_char, first, vector}
 use Rattle.apl_model_laws.specs.Lawful.{IsOrigin}
-use Rattle.apl_model_laws.proofs.Arrays.{all_imp, all_map, all_mapped, all_append, all_replicate, all_at, length-upward, upward-below, split, Gives, gives, error_if-gives, within-gives, domain-gives, small_number, zero_cell, fill_cell, cell_at-lawful, counted-number, tabulated-array, selected-array, vector-array, scalar-array, count-small}
+use Rattle.apl_model_laws.proofs.Arrays.{Gives, gives, error_if-gives, within-gives, domain-gives, zero_cell, fill_cell, cell_at-lawful, counted-number, tabulated-array, gathered-array, vector-array, scalar-array, count-small}
 
 -- ---- tests
-
-pub not-false : (b : Bool) → not b ≡ false → b ≡ true
-not-false true h = refl
-not-false false h = absurd cc
-
-pub or-false : (p q : Bool) → p || q ≡ false → (p ≡ false) × (q ≡ false)
-or-false true q h = absurd cc
-or-false false q h = (refl, h)
 
 pub no_cells : (cells : List ℤ) (n : ℕ) → length cells ≡ n → (n == 0) ≡ true → cells ≡ []
 no_cells [] n l e = refl
@@ -66,13 +64,9 @@ axis_last : (r : ℕ) → IsAxisOf r (r - 1)
 axis_last zero = inr (refl, refl)
 axis_last (suc r) = inl (omega arith)
 
-magnitude-below : (z : ℤ) (r : ℕ) → pos 0 ≤ℤ z → z <ℤ pos r → unsigned_abs z < r
-magnitude-below (pos n) r a b = omega (arith, ints, b)
-magnitude-below (negsuc n) r a b = absurd (omega (arith, ints, a))
-
 axis_numbered : (o k : ℤ) (r : ℕ) → int_le o k && int_lt k (o +ℤ pos r) ≡ true → unsigned_abs (k -ℤ o) < r
 axis_numbered o k r h =
-    let s = split (int_le o k) (int_lt k (o +ℤ pos r)) h in
+    let s = both_parts (int_le o k) (int_lt k (o +ℤ pos r)) h in
     let a : int_le o k ≡ true = s.0 in
     let b : int_lt k (o +ℤ pos r) ≡ true = s.1 in
     magnitude-below (k -ℤ o) r (omega (arith, ints)) (omega (arith, ints))
@@ -96,17 +90,17 @@ interval-gives o h b =
     error_if-gives error.Rank (is_above_one b) _ (λ _. error_if-gives error.Length (not (is_single b)) _ (λ _. error_if-gives error.Domain (not (are_counts b)) _ (λ _. within-gives (unsigned_abs (first b) ∷ []) _ (λ s.
     let n = unsigned_abs (first b) in
     let small : n ≤ 2 ^ 40 = s.each.0 in
-    gives _ (counted-vector o h (upward 0 n) (omega (arith, length-upward 0 n, small)) (upward-below 0 n (2 ^ 40) (omega (arith, small))))))))
+    gives _ (counted-vector o h (upward 0 n) (omega (arith, length-upward 0 n, small)) (all-upward (λ p. p < 2 ^ 40) 0 n (λ p low high. omega (arith, high, small))))))))
 
 pub shape-gives : (b : Array) → IsArray b → Gives (shape_of b)
 shape-gives b h = gives _ (vector-array Num (map pos b.shape) (omega (arith, length-map b.shape pos, h.shape.rank))
-    (all_map IsNumber pos b.shape (all_imp (λ n. n ≤ 2 ^ 40) (λ n. IsNumber (pos n)) b.shape (λ n p. small_number n (omega (arith, p))) h.shape.each)))
+    (all_map IsNumber pos b.shape (all_imp (λ n. n ≤ 2 ^ 40) (λ n. IsNumber (pos n)) b.shape (λ n p. IsNumber-small n (omega (arith, p))) h.shape.each)))
 
 pub reshape-gives : (a b : Array) → IsArray b → Gives (reshape a b)
 reshape-gives a b h =
     error_if-gives error.Rank (is_above_one a) _ (λ _. error_if-gives error.Length (is_empty b && are_counts a && not (list_any (int_eq (pos 0)) a.cells)) _ (λ _. error_if-gives error.Domain (not (are_counts a)) _ (λ _. within-gives (map unsigned_abs a.cells) _ (λ s. gives _ (record {
       shape = s;
-      count = length-map (upward 0 (size_of (map unsigned_abs a.cells))) (λ p. slice_index_or b.cells (p % count b) (pos 0)) ∙ length-upward 0 (size_of (map unsigned_abs a.cells));
+      count = length-map-upward (λ p. slice_index_or b.cells (p % count b) (pos 0)) 0 (size_of (map unsigned_abs a.cells));
       cells = all_mapped (IsCell b.kind) (λ p. slice_index_or b.cells (p % count b) (pos 0)) (upward 0 (size_of (map unsigned_abs a.cells)))
           (λ p. all_at (IsCell b.kind) b.cells (p % count b) (pos 0) h.cells (zero_cell b.kind));
     })))))
@@ -137,12 +131,12 @@ catenate-gives a b g h =
 -- ---- reversal, rotation, transposition
 
 pub reversed-gives : (o : ℤ) (axis : Axis) (b : Array) → IsArray b → Gives (reversed o axis b)
-reversed-gives o axis b h = axis-gives o axis (rank b) _ (λ k _. gives _ (selected-array b.shape (reverse_index b.shape k) b h.shape h.cells))
+reversed-gives o axis b h = axis-gives o axis (rank b) _ (λ k _. gives _ (gathered-array b.shape (reverse_index b.shape k) b h.shape h.cells))
 
 pub rotated-gives : (o : ℤ) (axis : Axis) (a b : Array) → IsArray b → Gives (rotated o axis a b)
 rotated-gives o axis a b h = axis-gives o axis (rank b) _ (λ k _.
     error_if-gives error.Rank (not (is_single a) && not (rank a + 1 == rank b)) _ (λ _. error_if-gives error.Length (not (is_single a) && not (pointwise nat_eq a.shape (remove b.shape k))) _ (λ _. error_if-gives error.Domain (is_text a) _ (λ _.
-    gives _ (selected-array b.shape (λ is. turned_index b.shape k (turn a k is) is) b h.shape h.cells)))))
+    gives _ (gathered-array b.shape (λ is. turned_index b.shape k (turn a k is) is) b h.shape h.cells)))))
 
 -- ---- taking and dropping
 
@@ -159,7 +153,7 @@ take-gives a b h =
 pub drop-gives : (a b : Array) → IsArray b → Gives (drop_from a b)
 drop-gives a b h =
     error_if-gives error.Rank (is_above_one a) _ (λ _. error_if-gives error.Length (not (count a == length (taken_shape a b))) _ (λ _. error_if-gives error.Domain (is_text a) _ (λ _. within-gives (drop_shape (taken_shape a b) a.cells) _ (λ s.
-    gives _ (selected-array (drop_shape (taken_shape a b) a.cells) (drop_index (taken_shape a b) a.cells) (with_shape b (taken_shape a b)) s h.cells)))))
+    gives _ (gathered-array (drop_shape (taken_shape a b) a.cells) (drop_index (taken_shape a b) a.cells) (with_shape b (taken_shape a b)) s h.cells)))))
 
 -- ---- look-ups
 
@@ -214,7 +208,7 @@ grade-gives down o p b h =
     error_if-gives error.Rank (not (rank b == 1)) _ (λ _. error_if-gives error.Domain (is_text b) _ (λ _.
     gives _ (counted-vector o p (in_order down b.cells (upward 0 (count b)))
     (omega (arith, in_order-length down b.cells (upward 0 (count b)), length-upward 0 (count b), h.shape.product))
-    (in_order-below (2 ^ 40) down b.cells (upward 0 (count b)) (upward-below 0 (count b) (2 ^ 40) (omega (arith, h.shape.product)))))))
+    (in_order-below (2 ^ 40) down b.cells (upward 0 (count b)) (all-upward (λ p. p < 2 ^ 40) 0 (count b) (λ p low high. omega (arith, high, h.shape.product)))))))
 
 -- ---- decoding
 
@@ -248,7 +242,7 @@ pub decode-gives : (a b : Array) → IsArray a → IsArray b → Gives (decode a
 decode-gives a b g h =
     let n = if is_single a then count b else count a in
     error_if-gives error.Rank (is_above_one a || is_above_one b) _ (λ _. error_if-gives error.Length (not (is_single a) && not (is_single b) && not (count a == count b)) _ (λ _. error_if-gives error.Domain (is_text a || is_text b) _ (λ e.
-    let t = or-false (is_text a) (is_text b) e in
+    let t = neither_part (is_text a) (is_text b) e in
     domain-gives (decoded (Some (pos 0)) (matched a n) (matched b n)) _ (λ z f. scalar-array Num z
     (if_some (decoded (Some (pos 0)) (matched a n) (matched b n)) z
     (decoded-lawful (matched a n) (matched b n) (Some (pos 0)) (zero_cell Num) (matched-numbers a g t.0 n) (matched-numbers b h t.1 n)) f)))))

@@ -8,13 +8,13 @@ use Rattle.apl_model.specs.Call.{Routine, RoutineLine, entered, turn, on_turn, l
 use Rattle.apl_model.specs.Frames.{with_turn, with_ended, with_call, without_call, result_in}
 use Rattle.apl_model.specs.Environment.{Environment, look_up}
 use Rattle.apl_model.specs.Evaluation.{State, at_place, needed, origin_of, with_name, with_printed, replace_in, Calls, value_of, argument, positions_of, branch_by, branch_to, print_result, of_arrays, statement_flow}
-use Rattle.apl_model.specs.Order.{silently, show_value, expression_in}
 use Rattle.apl_model.specs.Outcome.{Outcome, done, fails, spent, and_then, Flow}
 use Rattle.apl_model.specs.Immediate.{of_states, Step, statement_step, command_step, obeyed, unwound, Ending, reported, Run, after_statement, run_steps}
-use Rattle.apl_model.specs.Tree.{Tree, Slot, Positions, Statement, constant, variable, call, parenthesis, monadic, dyadic, reduction, outer_product, inner_product, subscript, assignment, indexed_assignment, output, elided, given, no_position, position, nothing, branch, expression}
+use Rattle.apl_model.specs.Tree.{Tree, Slot, Positions, Statement}
 use Rattle.apl_model.specs.Whole.{Answer, is_empty, is_text}
 use Rattle.apl_model.specs.declared.scripts.Command.{Command}
 use Rattle.apl_model.specs.declared.scripts.Command.TheVariants.{Vars, Fns, Erase, Origin}
+use Rattle.apl_model.proofs.Every.{IsOfEach, every-value, every-argument, every-position, every-flow}
 use Rattle.apl_model_laws.specs.Turns.{state_of}
 
 -- a relation that each step of a run keeps
@@ -54,78 +54,53 @@ leads_name k b name a s = record { to = k.variables s (with_name name a s).varia
 pub leads_print : {R : State → State → Type 0} → IsKept R → {A : Type 0} (b : A) (text : List ℕ) (s : State) → Leads R s (done b (with_printed text s))
 leads_print k b text s = record { to = k.printed s text }
 
+-- where a branch goes
+leads_branch : {R : State → State → Type 0} → IsKept R → (place : Place) (a : Array) (s : State) → Leads R s (branch_to place a s)
+leads_branch {R} k place a s = by (is_empty a) (is_text a)
+  where
+    by : (e c : Bool) → Leads R s (branch_by e c a place s)
+    by true c = leads_done k _ s
+    by false true = record { to = k.same s }
+    by false false = leads_done k _ s
+
+-- the value of a statement, if it has one, printed
+leads_show : {R : State → State → Type 0} → IsKept R → (a : Option Array) (s : State) → Leads R s (print_result a s)
+leads_show k (Some a) s = leads_print k _ _ s
+leads_show k None s = leads_done k _ s
+
 module _ (R : State → State → Type 0) (k : IsKept R) (calls : Calls)
     (kept : (f : List ℕ) (place : Place) (left right : Option Array) (s : State) → Leads R s (calls f place left right s)) where
-  mutual
-    pub leads_value : (t : Tree) (s : State) → Leads R s (value_of calls t s)
-    leads_value (constant literal place) s = record { to = k.same s }
-    leads_value (variable name place) s = leads_needed k place (look_up s.variables name) s
-    leads_value (call f left right place) s =
-        leads_then k (leads_argument right s) (λ b t. leads_then k (leads_argument left t) (λ a u. leads_then k (kept f place a b u) (leads_needed k place)))
-    leads_value (parenthesis inner place) s = leads_value inner s
-    leads_value (monadic f right place) s = leads_then k (leads_value right s) (λ b t. leads_at k place _ t)
-    leads_value (dyadic f left right place) s =
-        leads_then k (leads_value right s) (λ b t. leads_then k (leads_value left t) (λ a u. leads_at k place _ u))
-    leads_value (reduction f axis right place) s = leads_then k (leads_value right s) (λ b t. leads_at k place _ t)
-    leads_value (outer_product f left right place) s =
-        leads_then k (leads_value right s) (λ b t. leads_then k (leads_value left t) (λ a u. leads_at k place _ u))
-    leads_value (inner_product f g left right place) s =
-        leads_then k (leads_value right s) (λ b t. leads_then k (leads_value left t) (λ a u. leads_at k place _ u))
-    leads_value (subscript array ps place) s =
-        leads_then k (leads_positions ps s) (λ vs t. leads_then k (leads_value array t) (λ a u. leads_at k place _ u))
-    leads_value (assignment name value place) s = leads_then k (leads_value value s) (λ a t. leads_name k a name a t)
-    leads_value (indexed_assignment name ps value place) s =
-        leads_then k (leads_value value s) (λ b t. leads_then k (leads_positions ps t) (λ vs u.
-        leads_then k (leads_at k place (replace_in (origin_of u) (look_up u.variables name) vs b) u) (λ a v. leads_name k b name a v)))
-    leads_value (output value place) s = leads_then k (leads_value value s) (λ a t. leads_print k a _ t)
+  -- everything that is done with arrays keeps the relation
+  each_leads : IsOfEach (of_arrays calls) (λ A s o. Leads R {A = A} s o)
+  each_leads = record {
+    literal = λ l s. leads_done k _ s;
+    name = λ name place s. leads_needed k place _ s;
+    apply1 = λ f b place s. leads_at k place _ s;
+    apply2 = λ f a b place s. leads_at k place _ s;
+    reduce = λ f axis b place s. leads_at k place _ s;
+    outer = λ f a b place s. leads_at k place _ s;
+    inner = λ f g a b place s. leads_at k place _ s;
+    index = λ a ps place s. leads_at k place _ s;
+    assign = λ name a s. leads_name k a name a s;
+    replace = λ name ps b place s. leads_then k (leads_at k place (replace_in (origin_of s) (look_up s.variables name) ps b) s) (λ a t. leads_name k b name a t);
+    calls = kept;
+    print = λ a s. leads_print k a _ s;
+    need = leads_needed k;
+    branch = leads_branch k;
+    show = leads_show k;
+  }
 
-    pub leads_argument : (q : Slot) (s : State) → Leads R s (argument calls q s)
-    leads_argument elided s = record { to = k.same s }
-    leads_argument (given t) s = leads_then k (leads_value t s) (λ a u. leads_done k (Some a) u)
+  pub leads_value : (t : Tree) (s : State) → Leads R s (value_of calls t s)
+  leads_value t s = every-value (of_arrays calls) (λ A s o. Leads R {A = A} s o) (λ A a s. leads_done k a s) (λ A B s o next h n. leads_then k h n) each_leads t s
 
-    pub leads_positions : (qs : Positions) (s : State) → Leads R s (positions_of calls qs s)
-    leads_positions no_position s = record { to = k.same s }
-    leads_positions (position q qs) s =
-        leads_then k (leads_positions qs s) (λ vs t. leads_then k (leads_argument q t) (λ v u. leads_done k (v ∷ vs) u))
+  pub leads_argument : (q : Slot) (s : State) → Leads R s (argument calls q s)
+  leads_argument q s = every-argument (of_arrays calls) (λ A s o. Leads R {A = A} s o) (λ A a s. leads_done k a s) (λ A B s o next h n. leads_then k h n) each_leads q s
 
-  leads_flow : (t : Tree) (s : State) → Leads R s (and_then (value_of calls t s) (show_value (of_arrays calls)))
-  leads_flow t s = leads_then k (leads_value t s) (λ a u. leads_print k _ _ u)
-
-  leads_silent : (t : Tree) (s : State) → Leads R s (and_then (value_of calls t s) silently)
-  leads_silent t s = leads_then k (leads_value t s) (λ a u. leads_done k _ u)
-
-  leads_result : (a : Option Array) (s : State) → Leads R s (print_result a s)
-  leads_result (Some a) s = leads_print k _ _ s
-  leads_result None s = leads_done k _ s
-
-  leads_branch : (place : Place) (a : Array) (s : State) → Leads R s (branch_to place a s)
-  leads_branch place a s = by (is_empty a) (is_text a)
-    where
-      by : (e c : Bool) → Leads R s (branch_by e c a place s)
-      by true c = leads_done k _ s
-      by false true = record { to = k.same s }
-      by false false = leads_done k _ s
-
-  leads_expression : (t : Tree) (s : State) → Leads R s (expression_in (of_arrays calls) t s)
-  leads_expression (call f left right place) s =
-      leads_then k (leads_argument right s) (λ b t. leads_then k (leads_argument left t) (λ a u. leads_then k (kept f place a b u) leads_result))
-  leads_expression (assignment name value place) s = leads_silent (assignment name value place) s
-  leads_expression (indexed_assignment name ps value place) s = leads_silent (indexed_assignment name ps value place) s
-  leads_expression (output value place) s = leads_silent (output value place) s
-  leads_expression (constant l p) s = leads_flow (constant l p) s
-  leads_expression (variable n p) s = leads_flow (variable n p) s
-  leads_expression (parenthesis e p) s = leads_flow (parenthesis e p) s
-  leads_expression (monadic f b p) s = leads_flow (monadic f b p) s
-  leads_expression (dyadic f a b p) s = leads_flow (dyadic f a b p) s
-  leads_expression (reduction f x b p) s = leads_flow (reduction f x b p) s
-  leads_expression (outer_product f a b p) s = leads_flow (outer_product f a b p) s
-  leads_expression (inner_product f g a b p) s = leads_flow (inner_product f g a b p) s
-  leads_expression (subscript a ps p) s = leads_flow (subscript a ps p) s
+  pub leads_positions : (qs : Positions) (s : State) → Leads R s (positions_of calls qs s)
+  leads_positions qs s = every-position (of_arrays calls) (λ A s o. Leads R {A = A} s o) (λ A a s. leads_done k a s) (λ A B s o next h n. leads_then k h n) each_leads qs s
 
   pub leads_statement : (t : Statement) (s : State) → Leads R s (statement_flow calls t s)
-  leads_statement nothing s = leads_done k _ s
-  leads_statement (branch value place) s = leads_then k (leads_value value s) (leads_branch place)
-  leads_statement (expression value) s = leads_expression value s
+  leads_statement t s = every-flow (of_arrays calls) (λ A s o. Leads R {A = A} s o) (λ A a s. leads_done k a s) (λ A B s o next h n. leads_then k h n) each_leads t s
 
 -- ---- calls
 

@@ -7,5 +7,7 @@ pub mod Kept
 pub mod Onwards
 pub mod Safe
 pub mod Scripts
-pub mod Transposes
+pub mod Spent
+pub mod TestedAxes
 pub mod Values
+pub mod Variables

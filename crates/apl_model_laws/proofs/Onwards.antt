@@ -182,7 +182,7 @@ turn-later k line act h g (suc left) (suc m) s e f =
     (subst (λ (x : ℕ). Later k (act (with_turn left s)) (act (with_turn x s))) i (h (with_turn left s)))
 
 -- after a turn that gave a value there are fewer turns
-turn-fewer : {A : Type 0} (line : ℕ) (act : State → Outcome State A) → ((s : State) → Leads TakesTurns s (act s)) →
+pub turn-fewer : {A : Type 0} (line : ℕ) (act : State → Outcome State A) → ((s : State) → Leads TakesTurns s (act s)) →
     (n : ℕ) (s : State) → s.turns ≡ n → (a : A) (t : State) → turn of_states line n act s ≡ done a t → t.turns < n
 turn-fewer line act h zero s e a t f = absurd cc
 turn-fewer {A} line act h (suc left) s e a t f = by (act (with_turn left s)) (h (with_turn left s)).to f
@@ -236,7 +236,7 @@ module _ (k : ℕ) (calls : Calls) (later : (f : List ℕ) (place : Place) (left
 calls-grow : (routines : List (Routine Statement)) (n : ℕ) (f : List ℕ) (place : Place) (left right : Option Array) (s : State) → Leads Grows s (call_within of_states statement_flow routines n f place left right s)
 calls-grow routines n f place left right s = leads_call Statement statement_flow Grows printed_kept (leads_statement Grows printed_kept) routines n f place left right s
 
-calls-take : (routines : List (Routine Statement)) (n : ℕ) (f : List ℕ) (place : Place) (left right : Option Array) (s : State) → Leads TakesTurns s (call_within of_states statement_flow routines n f place left right s)
+pub calls-take : (routines : List (Routine Statement)) (n : ℕ) (f : List ℕ) (place : Place) (left right : Option Array) (s : State) → Leads TakesTurns s (call_within of_states statement_flow routines n f place left right s)
 calls-take routines n f place left right s = leads_call Statement statement_flow TakesTurns turns_kept (leads_statement TakesTurns turns_kept) routines n f place left right s
 
 calls-later : (k : ℕ) (routines : List (Routine Statement)) (n : ℕ) (f : List ℕ) (place : Place) (left right : Option Array) (s : State) →

@@ -17,9 +17,14 @@ use Rattle.apl_base.specs.declared.rows.Mon.{Mon}
 use Rattle.apl_base.specs.declared.rows.Dya.{Dya}
 use Rattle.apl_base.specs.declared.rows.Dya.TheVariants as dya
 use Rattle.apl_base.specs.Array.{Array, IsArray, IsShape, size_of, place_at, cell_at}
+use Rattle.apl_base.specs.Elements.{element, elements, numbers, all_defined, indices}
 use Rattle.apl_base.specs.Number.{IsNumber, IsCell}
 use Rattle.apl_base.specs.Scalar.{scalar1, scalar2, is_same_kind, identity_of, number}
 use Rattle.apl_base.specs.Selection.{upward}
+use Rattle.apl_base.proofs.Elements.{length-indices, all_defined-each}
+use Rattle.apl_base.proofs.Lists.{all_imp, all_map, all_mapped, all_replicate, all_at, all_set, length-pairs, zip-all}
+use Rattle.apl_base.proofs.Numbers.{IsNumber-small}
+use Rattle.apl_base.proofs.Booleans.{both_parts, neither_part}
 use Rattle.scalar_table.specs.Row.{IsElement, IsNumberElement}
 use Rattle.scalar_table.specs.LawfulElements.{scalar1-lawful, scalar2-lawful}
 use Rattle.apl_model.specs.declared.functions.Axis.{Axis}
@@ -27,11 +32,11 @@ use Rattle.apl_model.specs.Evaluation.{literal_shape}
 use Rattle.apl_model.specs.Lift.{shape_by, fitting_shape, spread, spread_to, lift1, lift_over, lift2}
 use Rattle.apl_model.specs.Made.{kinds_differ}
 use Rattle.apl_model.specs.Product.{reduced, elem_at, line_at, reduced_along, reduce_at, reduce, outer, left_axes, right_axes, left_length, right_length, inner_length, left_at, right_at, inner_at, inner}
-use Rattle.apl_model.specs.Subscript.{is_text_position, in_axes, selected_shape, selected_index, subscript, value_at, replaced, replacement}
-use Rattle.apl_model.specs.Whole.{rank, is_single, is_empty, is_extendable, elements, element, first, indices, numbers, all_defined}
+use Rattle.apl_model.specs.Subscript.{is_text_position, in_axes, positions_shape, positions_index, subscript, value_at, replaced, replacement}
+use Rattle.apl_model.specs.Whole.{rank, is_single, is_empty, is_extendable, first}
 use Rattle.apl_model_laws.specs.Lawful.{LiteralsAreLawful}
-use Rattle.apl_model_laws.proofs.Arrays.{all_imp, all_map, all_mapped, all_replicate, all_at, all_set, length-indices, all_defined-each, Gives, gives, error_if-gives, within-gives, domain-gives, small_number, zero_cell, cell_at-lawful, first-lawful, selected-array, numbers-array, elements-lawful, one_axis, no_axis}
-use Rattle.apl_model_laws.proofs.Forms.{axis-gives, empty-cells, or-false}
+use Rattle.apl_model_laws.proofs.Arrays.{Gives, gives, error_if-gives, within-gives, domain-gives, zero_cell, cell_at-lawful, first-lawful, gathered-array, numbers-array, elements-lawful, one_axis, no_axis}
+use Rattle.apl_model_laws.proofs.Forms.{axis-gives, empty-cells}
 
 -- a value that a further step makes of a value
 then_some : {X Y : Type 0} (Q : Y → Type 0) (o : Option X) (g : X → Option Y) → ((x : X) → o ≡ Some x → IfSome (g x) Q) → IfSome (option_and_then g o) Q
@@ -62,12 +67,8 @@ same_lengths [] [] e = refl
 same_lengths [] (n ∷ rs) e = absurd cc
 same_lengths (m ∷ ls) [] e = absurd cc
 same_lengths (m ∷ ls) (n ∷ rs) e =
-    let s = halves (nat_eq m n) (pointwise nat_eq ls rs) e in
+    let s = both_parts (nat_eq m n) (pointwise nat_eq ls rs) e in
     let f = eqb-true m n s.0 in let g = same_lengths ls rs s.1 in cc
-  where
-    halves : (p q : Bool) → p && q ≡ true → (p ≡ true) × (q ≡ true)
-    halves true q h = (refl, h)
-    halves false q h = absurd cc
 
 -- a shape that both operands fit: one that has more elements than one has as many as the shape
 pub record Fits (left_single right_single : Bool) (ls rs ns : List ℕ) : Type 0 where
@@ -98,17 +99,6 @@ spread-lawful : (t : Bool) (n : ℕ) (a : Array) → IsArray a → AllByRecursio
 spread-lawful true n a h = all_replicate IsElement n (element a.kind (first a)) (first-lawful a h.cells)
 spread-lawful false n a h = elements-lawful a h
 
-zip-length : {X Y : Type 0} (xs : List X) (ys : List Y) (n : ℕ) → length xs ≡ n → length ys ≡ n → length (zip xs ys) ≡ n
-zip-length [] ys n a b = a
-zip-length (x ∷ xs) [] n a b = b
-zip-length (x ∷ xs) (y ∷ ys) zero a b = absurd (omega (arith, a))
-zip-length (x ∷ xs) (y ∷ ys) (suc n) a b = ap suc (zip-length xs ys n (omega (arith, a)) (omega (arith, b)))
-
-zip-all : {X Y : Type 0} (P : X → Type 0) (Q : Y → Type 0) (xs : List X) (ys : List Y) → AllByRecursion P xs → AllByRecursion Q ys → AllByRecursion (λ (p : X × Y). P p.0 × Q p.1) (zip xs ys)
-zip-all P Q [] ys a b = tt
-zip-all P Q (x ∷ xs) [] a b = tt
-zip-all P Q (x ∷ xs) (y ∷ ys) a b = ((a.0, b.0), zip-all P Q xs ys a.1 b.1)
-
 pub lift2-gives : (f : Dya) (a b : Array) → IsArray a → IsArray b → Gives (lift2 f a b)
 lift2-gives f a b g h =
     by (fitting_shape a.shape b.shape) (fits_by (pointwise nat_eq a.shape b.shape) (is_single a) (is_single b) a.shape b.shape (same_lengths a.shape b.shape) g.shape h.shape)
@@ -120,7 +110,7 @@ lift2-gives f a b g h =
         let ys = spread_to (size_of ns) b in
         domain-gives (all_defined (map (λ p. scalar2 f p.0 p.1) (zip xs ys))) (numbers ns)
         (valued ns (λ (p : Elem × Elem). scalar2 f p.0 p.1) (zip xs ys) k.shape
-        (zip-length xs ys (size_of ns) (spread-length (is_single a) (size_of ns) a g k.left) (spread-length (is_single b) (size_of ns) b h k.right))
+        (length-pairs xs ys (size_of ns) (spread-length (is_single a) (size_of ns) a g k.left) (spread-length (is_single b) (size_of ns) b h k.right))
         (all_imp (λ (p : Elem × Elem). IsElement p.0 × IsElement p.1) (λ p. IfSome (scalar2 f p.0 p.1) IsNumberElement) (zip xs ys)
         (λ p q. scalar2-lawful f p.0 p.1 q.0 q.1)
         (zip-all IsElement IsElement xs ys (spread-lawful (is_single a) (size_of ns) a g) (spread-lawful (is_single b) (size_of ns) b h))))
@@ -131,24 +121,24 @@ from_number : (e : Elem) → IsNumberElement e → IsElement e
 from_number e h = subst (λ k. IsCell k e.cell) (sym h.kind) h.cell
 
 identity-lawful : (f : Dya) → IfSome (option_map number (identity_of f)) IsNumberElement
-identity-lawful dya.Add = record { kind = refl; cell = small_number 0 (omega arith) }
-identity-lawful dya.Sub = record { kind = refl; cell = small_number 0 (omega arith) }
-identity-lawful dya.Mul = record { kind = refl; cell = small_number 1 (omega arith) }
-identity-lawful dya.Div = record { kind = refl; cell = small_number 1 (omega arith) }
-identity-lawful dya.Pow = record { kind = refl; cell = small_number 1 (omega arith) }
+identity-lawful dya.Add = record { kind = refl; cell = IsNumber-small 0 (omega arith) }
+identity-lawful dya.Sub = record { kind = refl; cell = IsNumber-small 0 (omega arith) }
+identity-lawful dya.Mul = record { kind = refl; cell = IsNumber-small 1 (omega arith) }
+identity-lawful dya.Div = record { kind = refl; cell = IsNumber-small 1 (omega arith) }
+identity-lawful dya.Pow = record { kind = refl; cell = IsNumber-small 1 (omega arith) }
 identity-lawful dya.Max = record { kind = refl; cell = record { least = omega (arith, ints); most = omega (arith, ints) } }
 identity-lawful dya.Min = record { kind = refl; cell = record { least = omega (arith, ints); most = omega (arith, ints) } }
-identity-lawful dya.Residue = record { kind = refl; cell = small_number 0 (omega arith) }
-identity-lawful dya.And = record { kind = refl; cell = small_number 1 (omega arith) }
-identity-lawful dya.Or = record { kind = refl; cell = small_number 0 (omega arith) }
+identity-lawful dya.Residue = record { kind = refl; cell = IsNumber-small 0 (omega arith) }
+identity-lawful dya.And = record { kind = refl; cell = IsNumber-small 1 (omega arith) }
+identity-lawful dya.Or = record { kind = refl; cell = IsNumber-small 0 (omega arith) }
 identity-lawful dya.Nand = tt
 identity-lawful dya.Nor = tt
-identity-lawful dya.Lt = record { kind = refl; cell = small_number 0 (omega arith) }
-identity-lawful dya.Le = record { kind = refl; cell = small_number 1 (omega arith) }
-identity-lawful dya.Eq = record { kind = refl; cell = small_number 1 (omega arith) }
-identity-lawful dya.Ge = record { kind = refl; cell = small_number 1 (omega arith) }
-identity-lawful dya.Gt = record { kind = refl; cell = small_number 0 (omega arith) }
-identity-lawful dya.Ne = record { kind = refl; cell = small_number 0 (omega arith) }
+identity-lawful dya.Lt = record { kind = refl; cell = IsNumber-small 0 (omega arith) }
+identity-lawful dya.Le = record { kind = refl; cell = IsNumber-small 1 (omega arith) }
+identity-lawful dya.Eq = record { kind = refl; cell = IsNumber-small 1 (omega arith) }
+identity-lawful dya.Ge = record { kind = refl; cell = IsNumber-small 1 (omega arith) }
+identity-lawful dya.Gt = record { kind = refl; cell = IsNumber-small 0 (omega arith) }
+identity-lawful dya.Ne = record { kind = refl; cell = IsNumber-small 0 (omega arith) }
 
 option-imp : {X : Type 0} (P Q : X → Type 0) (o : Option X) → ((x : X) → P x → Q x) → IfSome o P → IfSome o Q
 option-imp P Q None h a = tt
@@ -260,15 +250,15 @@ inner-gives f g a b p q =
 
 pub subscript-gives : (o : ℤ) (a : Array) (ps : List (Option Array)) → IsArray a → Gives (subscript o a ps)
 subscript-gives o a ps h =
-    let ns = selected_shape a.shape ps in
+    let ns = positions_shape a.shape ps in
     error_if-gives error.Rank (not (length ps == rank a)) _ (λ _. error_if-gives error.Domain (list_any is_text_position ps) _ (λ _.
     error_if-gives error.Index (not (in_axes o a.shape ps)) _ (λ _. within-gives ns _ (λ s.
-    gives _ (selected-array ns (selected_index o a.shape ps) a s h.cells)))))
+    gives _ (gathered-array ns (positions_index o a.shape ps) a s h.cells)))))
 
 replaced-length : (o : ℤ) (a : Array) (ps : List (Option Array)) (b : Array) (is : List (List ℕ)) (cells : List ℤ) → length (replaced o a ps b is cells) ≡ length cells
 replaced-length o a ps b [] cells = refl
 replaced-length o a ps b (i ∷ is) cells =
-    let p = place_at a.shape (selected_index o a.shape ps i) in
+    let p = place_at a.shape (positions_index o a.shape ps i) in
     replaced-length o a ps b is (set cells p (value_at b i)) ∙ length-set cells p (value_at b i)
 
 replaced-none : (o : ℤ) (a : Array) (ps : List (Option Array)) (b : Array) (is : List (List ℕ)) → replaced o a ps b is [] ≡ []
@@ -286,7 +276,7 @@ replaced-lawful : (k : Kind) (o : ℤ) (a : Array) (ps : List (Option Array)) (b
     AllByRecursion (IsCell k) cells → AllByRecursion (IsCell k) (replaced o a ps b is cells)
 replaced-lawful k o a ps b h [] cells c = c
 replaced-lawful k o a ps b h (i ∷ is) cells c =
-    let p = place_at a.shape (selected_index o a.shape ps i) in
+    let p = place_at a.shape (positions_index o a.shape ps i) in
     replaced-lawful k o a ps b h is (set cells p (value_at b i)) (all_set (IsCell k) cells p (value_at b i) c (value-lawful k b h i))
 
 -- of cells of one kind, or where there are none
@@ -302,7 +292,7 @@ replaced-cells false false Char Num o a ps b is cells f g c d e = absurd cc
 
 pub replacement-gives : (o : ℤ) (a : Array) (ps : List (Option Array)) (b : Array) → IsArray a → IsArray b → Gives (replacement o a ps b)
 replacement-gives o a ps b g h =
-    let ns = selected_shape a.shape ps in
+    let ns = positions_shape a.shape ps in
     error_if-gives error.Rank (not (length ps == rank a) || (not (is_single b) && not (rank b == length ns))) _ (λ _.
     error_if-gives error.Length (not (is_single b) && not (pointwise nat_eq b.shape ns)) _ (λ _.
     error_if-gives error.Domain (list_any is_text_position ps || kinds_differ a b) _ (λ e.
@@ -310,7 +300,7 @@ replacement-gives o a ps b g h =
       shape = g.shape;
       count = replaced-length o a ps b (indices ns) a.cells ∙ g.count;
       cells = replaced-cells (is_empty a) (is_empty b) a.kind b.kind o a ps b (indices ns) a.cells (empty-cells a g) (empty-cells b h) g.cells h.cells
-          (or-false (list_any is_text_position ps) (kinds_differ a b) e).1;
+          (neither_part (list_any is_text_position ps) (kinds_differ a b) e).1;
     }))))))
 
 -- ---- literals

@@ -1,10 +1,11 @@
 -- What is lawful stays lawful: numbers within -M..M, characters of Unicode, and lengths that make a shape.
-use Rattle.std.specs.Prelude.{◌≡◌, ℕ, ◌⊎◌, ◌↔◌, ℤ, pos, IsTrue, List, length, Option, Some, None, Ok, Err}
+use Rattle.std.specs.Prelude.{◌≡◌, ℕ, ◌⊎◌, ◌↔◌, ℤ, pos, ◌≤ℤ◌, unsigned_abs, IsTrue, List, length, map, Option, Some, None, Ok, Err}
 use Rattle.std.specs.List.{AllByRecursion}
 use Rattle.apl_base.specs.declared.faults.Place.{Place}
 use Rattle.apl_base.specs.declared.rows.Dya.{Dya}
 use Rattle.apl_base.specs.Array.{Array, IsArray, IsShape}
 use Rattle.apl_base.specs.Number.{IsNumber}
+use Rattle.apl_base.specs.Selection.{AreAxes, axes_rank}
 use Rattle.apl_model.specs.declared.functions.Axis.{Axis}
 use Rattle.apl_model.specs.declared.functions.DyaFn.{DyaFn}
 use Rattle.apl_model.specs.declared.functions.MonFn.{MonFn}
@@ -17,6 +18,7 @@ use Rattle.apl_model.specs.Evaluation.{State, Calls, literal_array, monadic_valu
 use Rattle.apl_model.specs.Outcome.{Outcome, done, fails, spent}
 use Rattle.apl_model.specs.Grammar.{IsLiteral, IsExpression, ArePositions, IsStatement, IsCommand}
 use Rattle.apl_model.specs.Immediate.{of_states, routine, run_items, immediate}
+use Rattle.apl_model.specs.Made.{are_axes}
 use Rattle.apl_model.specs.Product.{reduce, outer, inner}
 use Rattle.apl_model.specs.Script.{headings, IsScript}
 use Rattle.apl_model.specs.Subscript.{subscript, replacement}
@@ -40,6 +42,11 @@ IsOptional None = Unit {0}
 -- the test of a shape is true exactly of lengths that make one
 abbrev pub ShapesAreTested : Type 0
 ShapesAreTested = (ns : List ℕ) → IsTrue (is_shape ns) ↔ IsShape ns
+
+-- and that of axes exactly of numbers that are 0 to k - 1 for some k
+abbrev pub AxesAreTested : Type 0
+AxesAreTested = (zs : List ℤ) → IsTrue (are_axes zs) ↔
+    (AllByRecursion (λ z. pos 0 ≤ℤ z) zs × AreAxes (axes_rank (map unsigned_abs zs)) (map unsigned_abs zs))
 
 -- ---- of lawful arguments each function gives a lawful array, or an error
 

@@ -1,9 +1,14 @@
 //! What is lawful stays lawful: numbers within -M..M, characters of Unicode, and lengths that make a shape.
-ghost use Rattle.apl_model_laws.specs.Lawful.{ShapesAreTested, LiteralsAreLawful, MonadicValuesAreLawful, DyadicValuesAreLawful, ReductionsAreLawful, OuterProductsAreLawful, InnerProductsAreLawful, SubscriptsAreLawful, ReplacementsAreLawful, ExpressionsAreLawful, PositionsAreLawful, StatementsAreLawful, FunctionsAreLawful, RunsAreLawful, ScriptsHaveLawfulItems, ImmediateIsLawful};
+ghost use Rattle.apl_model_laws.specs.Lawful.{ShapesAreTested, AxesAreTested, LiteralsAreLawful, MonadicValuesAreLawful, DyadicValuesAreLawful, ReductionsAreLawful, OuterProductsAreLawful, InnerProductsAreLawful, SubscriptsAreLawful, ReplacementsAreLawful, ExpressionsAreLawful, PositionsAreLawful, StatementsAreLawful, FunctionsAreLawful, RunsAreLawful, ScriptsHaveLawfulItems, ImmediateIsLawful};
 
 /// The test of a shape is true exactly of lengths that make one.
 pub fn shapes_are_tested()
     ensures { ShapesAreTested }
+{}
+
+/// The test of axes is true exactly of numbers that are 0 to k - 1 for some k.
+pub fn axes_are_tested()
+    ensures { AxesAreTested }
 {}
 
 /// A literal of the language is a lawful array.

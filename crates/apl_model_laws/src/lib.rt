@@ -7,7 +7,7 @@ mod printing;
 mod turns;
 
 pub use lawful::{
-    dyadic_values_are_lawful, expressions_are_lawful, functions_are_lawful,
+    axes_are_tested, dyadic_values_are_lawful, expressions_are_lawful, functions_are_lawful,
     inner_products_are_lawful, literals_are_lawful, monadic_values_are_lawful,
     outer_products_are_lawful, positions_are_lawful, reductions_are_lawful,
     replacements_are_lawful, runs_are_lawful, scripts_have_lawful_items, shapes_are_tested,
@@ -20,6 +20,7 @@ pub use printing::{
     runs_begin_with_their_prefixes, statements_keep_printed, statements_print_behind,
 };
 pub use turns::{
-    expressions_keep_turns, functions_keep_turns, immediate_ends_at_most, positions_keep_turns,
-    runs_keep_turns, statements_keep_turns,
+    expressions_keep_turns, expressions_spend_all, functions_keep_turns, functions_spend_all,
+    immediate_ends_at_most, positions_keep_turns, positions_spend_all, runs_keep_turns,
+    runs_spend_all, statements_keep_turns, statements_spend_all,
 };

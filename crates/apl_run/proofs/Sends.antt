@@ -1,7 +1,8 @@
 -- A text that goes to a sink in pieces.
 use Rattle.std.proofs.Common.{◌≡◌, ℕ, List, [], ◌++◌, take, drop, Option, Some, None, Result, Ok, Err, OnOk, OnErr, IfSome, refl, ap, sym, ◌∙◌, append_assoc, append-nil, inl, inr}
 use Rattle.std.proofs.lemmas.List.{take-append-drop}
-use Rattle.apl_outside.specs.Bytes.{Gains, GainsPart, after_adding}
+use Rattle.apl_outside.specs.Bytes.{Gains, GainsPart}
+use Rattle.apl_outside.proofs.Parts.{gains_then}
 use Rattle.apl_run.specs.Bytes.{GainsPrefix, GainsUnlessRose}
 
 -- a sink has gained these bytes up to some of them, which are still to come
@@ -15,11 +16,6 @@ pub gains-nothing : (old : Option (List ℕ)) → Gains old old []
 gains-nothing None = refl
 gains-nothing (Some held) = ap Some (sym (append-nil held))
 
--- two gains are one
-pub gains-then : (a b c : Option (List ℕ)) (x y : List ℕ) → Gains a b x → Gains b c y → Gains a c (x ++ y)
-gains-then None b c x y p q = rw p at q
-gains-then (Some held) b c x y p q = let e : after_adding b y ≡ Some ((held ++ x) ++ y) = ap (λ o. after_adding o y) p in q ∙ e ∙ ap Some (append_assoc held x y)
-
 -- before the first piece
 pub sent-nothing : (old : Option (List ℕ)) (bytes back : List ℕ) → back ≡ bytes → Sent old old bytes back
 sent-nothing old bytes back e = record { front = []; whole = e; gained = gains-nothing old }
@@ -29,7 +25,7 @@ pub sent-more : (a b c : Option (List ℕ)) (bytes back piece rest : List ℕ) �
 sent-more a b c bytes back piece rest s e p = record {
   front = s.front ++ piece;
   whole = append_assoc s.front piece rest ∙ ap (λ xs. s.front ++ xs) (sym e) ∙ s.whole;
-  gained = gains-then a b c s.front piece s.gained p;
+  gained = gains_then a b c s.front piece s.gained p;
 }
 
 -- what is still to come may be cut in another way
@@ -51,7 +47,7 @@ prefix-part a b c bytes back piece rest s e p =
 pub gains-sent : (a b c : Option (List ℕ)) (bytes back piece : List ℕ) → Sent a b bytes back → back ≡ piece → Gains b c piece → Gains a c bytes
 gains-sent a b c bytes back piece s e p =
     let all : s.front ++ piece ≡ bytes = ap (λ xs. s.front ++ xs) (sym e) ∙ s.whole in
-    let gained : Gains a c (s.front ++ piece) = gains-then a b c s.front piece s.gained p in
+    let gained : Gains a c (s.front ++ piece) = gains_then a b c s.front piece s.gained p in
     rw all at gained
 
 -- one piece alone, of which a part was sent

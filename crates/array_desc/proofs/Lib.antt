@@ -1,11 +1,13 @@
-pub mod Algebra
 pub mod Transposition
 pub mod Canon
+pub mod CarryLemmas
 pub mod Ends
 pub mod Indices
 pub mod Kept
 pub mod Places
 pub mod Maps
+pub mod RowLemmas
+pub mod RunLemmas
 pub mod Sums
 pub mod Walks
 pub mod Wholes

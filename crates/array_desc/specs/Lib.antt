@@ -1,2 +1,3 @@
 pub mod Desc
+pub mod Rows
 pub mod Steps

@@ -6,6 +6,8 @@ mod diagonals;
 mod laws;
 mod lists;
 mod parts;
+mod rows;
+mod runs;
 mod selections;
 mod steps;
 #[cfg(test)]
@@ -13,3 +15,4 @@ mod tests;
 
 pub use desc::Desc;
 pub use laws::{determined, worked_numbers};
+pub use rows::{Row, RowWalk};

@@ -1,4 +1,4 @@
-ghost use Rattle.std.specs.Prelude.{◌≡◌, ◌^◌, ◌<◌, ◌≤◌, ◌↔◌, IsTrue, unsigned_abs, pos, ◌+ℤ◌, ◌*ℤ◌, length, map, if◌then◌else◌};
+ghost use Rattle.std.specs.Prelude.{◌≡◌, ◌^◌, ◌<◌, ◌≤◌, ◌↔◌, IsTrue, unsigned_abs, pos, ◌+ℤ◌, ◌-ℤ◌, ◌*ℤ◌, length, map, if◌then◌else◌};
 ghost use Rattle.std.specs.Int.{int_wrap};
 ghost use mir.Syntax.{w128};
 ghost use Rattle.apl_base.specs.Array.{size_of};
@@ -15,6 +15,13 @@ pub fn wrapped_sum(a: Cell, b: Cell) -> Cell
     ensures { result ≡ int_wrap w128 (a +ℤ b) }
 {
     a.wrapping_add(b)
+}
+
+/// The difference, as 128 bits keep it.
+pub fn wrapped_difference(a: Cell, b: Cell) -> Cell
+    ensures { result ≡ int_wrap w128 (a -ℤ b) }
+{
+    a.wrapping_sub(b)
 }
 
 /// The product, as 128 bits keep it.

@@ -2,3 +2,5 @@ pub mod IntervalLemmas
 pub mod StoreLemmas
 pub mod FollowsLemmas
 pub mod CountingLemmas
+pub mod PlaceLemmas
+pub mod CameLemmas

@@ -5,10 +5,14 @@
 mod hulls;
 mod ids;
 mod laws;
+mod places;
 mod storage;
 #[cfg(test)]
 mod tests;
 
 pub use ids::{BeginFault, Counts, OwnerId};
-pub use laws::{follows_laws, interval_laws, look_up_laws, worked_rows};
+pub use laws::{
+    came_laws, costs_laws, follows_examples, follows_laws, interval_laws, look_up_laws, run_laws,
+    worked_rows,
+};
 pub use storage::Store;

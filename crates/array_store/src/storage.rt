@@ -1,12 +1,15 @@
-ghost use Rattle.std.specs.Prelude.{◌≡◌, ◌≢◌, ℕ, ◌+◌, ◌-◌, ◌<◌, ◌≤◌, ◌↔◌, [], length, All, IfOk, OnOk, OnErr, IsOkUnless, IsErrOf, vec_len, vec_capacity};
+ghost use Rattle.std.specs.Prelude.{◌≡◌, ◌≢◌, ℕ, ◌+◌, ◌-◌, ◌++◌, ◌<◌, ◌≤◌, ◌↔◌, [], length, All, IfOk, OnOk, OnErr, IsOkUnless, IsErrOf, vec_len, vec_capacity};
 ghost use Rattle.apl_base.specs.Number.{IsCell};
 ghost use Rattle.apl_base.specs.Interval.{InInterval};
 ghost use Rattle.array_store.specs.Stores.{IsOwner, IsStore, Makes, owner_of, HasRoom, holders_of, cells_of, kind_of, interval_of, cell_of, empty_store, new_owner, with_holders, with_cell, without_owner};
+ghost use Rattle.array_store.specs.Places.{PlacesWithin, cells_along};
+ghost use Rattle.array_store.specs.Came.{Renews};
 ghost use Rattle.array_store.specs.Counting.{OnlyFetched, OnlyComputed, after_fetches, after_applications};
 ghost use Rattle.array_store.specs.Follows.{Follows, none, one_of};
 
 use crate::hulls::{least_to_greatest, widened};
 use crate::ids::{BeginFault, Counts, OwnerId};
+use crate::places::copy_along;
 use apl_base::{Cell, Interval, Kind, NoMemory};
 use slab::Slab;
 use std::alloc::Global;
@@ -143,6 +146,54 @@ impl Store {
         read.cells[place as usize]
     }
 
+    /// Appends the cells at `count` places of an owner, `from`, `from + step` and so on, to a vector with room for
+    /// them. It counts a fetch for each, and takes no memory.
+    pub fn fetch_run(
+        &mut self,
+        owner: OwnerId,
+        from: Cell,
+        step: Cell,
+        count: u64,
+        into: &mut Vec<Cell>,
+    )
+        requires live { 0 < holders_of self.old owner }
+        requires places { PlacesWithin (length (cells_of self.old owner)) from step count }
+        requires room { vec_len into.old + count ≤ vec_capacity into.old }
+        ensures cells { into.new.items
+            ≡ into.old.items ++ cells_along (cells_of self.old owner) from step count }
+        ensures capacity { vec_capacity into.old ≤ vec_capacity into.new }
+        ensures counted { self.new ≡ after_fetches self.old count }
+        ensures only { OnlyFetched self.old self.new count }
+        ensures lawful { All (IsCell (kind_of self.old owner))
+            (cells_along (cells_of self.old owner) from step count) }
+        ensures within { All (InInterval (interval_of self.old owner))
+            (cells_along (cells_of self.old owner) from step count) }
+        ensures store { IsStore self.new }
+    {
+        let start = into.len();
+        let Ok(()) = into.resize(start + count as usize, 0) else {
+            unreachable!()
+        };
+        self.fetch_into(owner, from, step, &mut into[start..]);
+    }
+
+    /// Puts the cells at places of an owner, `from`, `from + step` and so on, into a slice, as many as it has. It
+    /// counts a fetch for each.
+    pub fn fetch_into(&mut self, owner: OwnerId, from: Cell, step: Cell, into: &mut [Cell])
+        requires live { 0 < holders_of self.old owner }
+        requires places { PlacesWithin (length (cells_of self.old owner)) from step (length into.old) }
+        ensures cells { into.new ≡ cells_along (cells_of self.old owner) from step (length into.old) }
+        ensures counted { self.new ≡ after_fetches self.old (length into.old) }
+        ensures only { OnlyFetched self.old self.new (length into.old) }
+        ensures lawful { All (IsCell (kind_of self.old owner)) into.new }
+        ensures within { All (InInterval (interval_of self.old owner)) into.new }
+        ensures store { IsStore self.new }
+    {
+        self.counts.fetched = self.counts.fetched.saturating_add(into.len() as u64);
+        let read = &self.owners[owner.key];
+        copy_along(read.cells.as_slice(), from, step, into);
+    }
+
     /// Writes one cell in place. The owner's interval becomes the hull of what it was and the cell.
     pub fn write(&mut self, owner: OwnerId, place: u64, cell: Cell)
         requires alone { holders_of self.old owner ≡ 1 }
@@ -175,6 +226,8 @@ impl Store {
             → self.new ≡ with_holders self.old owner (holders_of self.old owner - 1) }
         ensures freed { holders_of self.old owner ≡ 1 → self.new ≡ without_owner self.old owner }
         ensures follows { Follows self.old self.new (one_of owner) none }
+        ensures renews { Renews self.old self.new [] }
+        ensures counts { self.new.counts ≡ self.old.counts }
         ensures store { IsStore self.new }
     {
         if self.holders(owner) == 1 {
@@ -263,5 +316,14 @@ impl Store {
         ensures store { IsStore self.new }
     {
         self.counts.applied = self.counts.applied.saturating_add(1);
+    }
+
+    /// Counts `n` scalar functions applied to elements.
+    pub fn count_applied_many(&mut self, n: u64)
+        ensures counted { self.new ≡ after_applications self.old n }
+        ensures only { OnlyComputed self.old self.new n 0 }
+        ensures store { IsStore self.new }
+    {
+        self.counts.applied = self.counts.applied.saturating_add(n);
     }
 }

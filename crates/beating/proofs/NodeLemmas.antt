@@ -15,7 +15,7 @@ use Rattle.drag_along.specs.declared.leaves.Leaf.{Leaf}
 use Rattle.drag_along.specs.declared.leaves.Leaf.TheVariants.{Stored, Gen}
 use Rattle.drag_along.specs.declared.nodes.Node.{Node}
 use Rattle.drag_along.specs.declared.nodes.Node.TheVariants.{Operand, One, Two}
-use Rattle.drag_along.specs.Nodes.{leaf_desc, leaf_kind, leaf_shape, AllLeaves, named_by_leaf, named_by_nodes, functions_in, pending_after, kind_of_nodes}
+use Rattle.drag_along.specs.Nodes.{leaf_desc, leaf_kind, leaf_shape, AllLeaves, named_by_leaf, named_by_nodes, functions_in, stored_of_leaf, stored_in, pending_after, kind_of_nodes}
 use Rattle.drag_along.specs.Segments.{HasShape}
 use Rattle.drag_along.specs.Meaning.{leaf_cell, leaf_element, value_at, values_at, fails_at}
 use Rattle.drag_along.specs.Lawful.{LiesIn, AreOfKind, IsLawfulLeaf}
@@ -213,6 +213,22 @@ pub selected_functions : (by : Selection) (olds news : List Node) → SelectsNod
 selected_functions by olds news h =
     along by (λ olds news. functions_in news ≡ functions_in olds)
     refl (λ old new olds news h s. s) (λ f place olds news s. ap suc s) (λ f place olds news s. ap suc s) olds news h
+
+-- and as many stored operands
+selected_stored_leaf : (by : Selection) (old new : Leaf) → SelectsLeaf by old new → stored_of_leaf new ≡ stored_of_leaf old
+selected_stored_leaf by (Stored owner old kind) (Stored named new what) h = refl
+selected_stored_leaf by (Gen old kind) (Gen new what) h = refl
+selected_stored_leaf by (Stored owner old kind) (Gen new what) h = absurd h
+selected_stored_leaf by (Gen old kind) (Stored named new what) h = absurd h
+
+pub selected_stored : (by : Selection) (olds news : List Node) → SelectsNodes by olds news → stored_in news ≡ stored_in olds
+selected_stored by olds news h =
+    along by (λ olds news. stored_in news ≡ stored_in olds)
+    refl
+    (λ old new olds news h s. omega (arith, selected_stored_leaf by old new h, s))
+    (λ f place olds news s. s)
+    (λ f place olds news s. s)
+    olds news h
 
 -- as many values are pending
 abbrev SamePending : List Node → List Node → Type 0

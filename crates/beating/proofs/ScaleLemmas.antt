@@ -9,7 +9,7 @@ use mir.Val.{to_z, of_z}
 use Rattle.apl_base.specs.Array.{IsIndex, size_of}
 use Rattle.apl_base.specs.Number.{IsNumber}
 use Rattle.array_desc.specs.Desc.{DescView, IsDesc, ShortAxesRest, dot, number}
-use Rattle.array_desc.proofs.Algebra.{add_mul, mul_assoc}
+use Rattle.apl_base.proofs.Integers.{add_mul, mul_assoc}
 use Rattle.array_desc.proofs.Indices.{index_with_size}
 use Rattle.array_desc.proofs.Sums.{Numbers, Near, near-dot, number_at_first, number_fits}
 use Rattle.beating.specs.Folds.{AllRest}

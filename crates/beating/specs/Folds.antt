@@ -15,8 +15,9 @@ use Rattle.array_store.specs.Stores.{StoreView}
 use Rattle.value_range.specs.Interval.{ranged2}
 use Rattle.drag_along.specs.declared.leaves.Leaf.{Leaf}
 use Rattle.drag_along.specs.declared.leaves.Leaf.TheVariants.{Gen}
-use Rattle.drag_along.specs.Segments.{SegmentView, HasShape, side_of}
+use Rattle.drag_along.specs.Segments.{SegmentView, IsSegment, HasShape, side_of}
 use Rattle.drag_along.specs.Meaning.{Meaning, Means, leaf_array}
+use Rattle.drag_along.specs.Lawful.{IsLawful}
 use Rattle.drag_along.specs.Views.{only_numbers}
 
 -- a segment that is one leaf of numbers, not stored
@@ -34,6 +35,11 @@ IsConstant s = ForSome (only_numbers s.nodes) (λ desc. AllRest desc.strides)
 -- where a segment is one leaf of numbers, these lie in its range
 abbrev pub NumbersInRange : SegmentView → Type 0
 NumbersInRange s = ForSome (only_numbers s.nodes) (λ desc. (i : List ℕ) → IsIndex desc.shape i → InInterval s.range (number desc i))
+
+-- they do wherever the segment is lawful over a store
+abbrev pub LawfulNumbersInRange : Type 0
+LawfulNumbersInRange =
+    (store : StoreView) (s : SegmentView) → IsSegment s → IsLawful store s → NumbersInRange s
 
 -- the functions of two arguments that keep progressions
 abbrev pub Keeps : Dya → Type 0

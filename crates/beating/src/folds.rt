@@ -2,9 +2,12 @@ ghost use Rattle.std.specs.Prelude.{◌≡◌, ◌↔◌, ◌⊎◌, IsTrue, Non
 ghost use Rattle.apl_base.specs.declared.faults.Place.{Place};
 ghost use Rattle.apl_base.specs.declared.cells.Kind.TheVariants.{Num};
 ghost use Rattle.apl_base.specs.Interval.{IsInterval};
+ghost use Rattle.array_store.specs.Stores.{StoreView};
+ghost use Rattle.value_range.specs.Interval.{ranged1, ranged2};
 ghost use Rattle.drag_along.specs.declared.leaves.Leaf.TheVariants.{Gen};
 ghost use Rattle.drag_along.specs.Meaning.{combined1, combined2, entry};
 ghost use Rattle.drag_along.specs.Segments.{IsSegment, side_of};
+ghost use Rattle.drag_along.specs.Lawful.{LeafWithin};
 ghost use Rattle.drag_along.specs.Views.{only_numbers};
 ghost use Rattle.beating.specs.Folds.{AllRest, Folds1, Folds2, FoldsTo, NumbersInRange};
 
@@ -21,6 +24,8 @@ pub fn fold1(s: &Segment, f: Mon) -> Option<Leaf>
     ensures exact { IsSome result ↔ Folds1 f s.now }
     ensures folded { IfSome result (λ leaf. (place : Place)
         → FoldsTo s.now.shape leaf (λ store. combined1 f place (entry store s.now))) }
+    ensures within { NumbersInRange s.now → IfSome result (λ leaf. (store : StoreView)
+        → LeafWithin store leaf (ranged1 f (side_of s.now)).range) }
 {
     if f != Mon::Minus {
         return None;
@@ -39,6 +44,8 @@ pub fn fold2(f: Dya, left: &Segment, right: &Segment) -> Option<Leaf>
     ensures exact { IsSome result ↔ Folds2 f left.now right.now }
     ensures folded { IfSome result (λ leaf. (place : Place)
         → FoldsTo right.now.shape leaf (λ store. combined2 f place (entry store left.now) (entry store right.now))) }
+    ensures within { IfSome result (λ leaf. (store : StoreView)
+        → LeafWithin store leaf (ranged2 f (side_of left.now) (side_of right.now)).range) }
 {
     let a = only_numbers(left)?;
     let b = only_numbers(right)?;

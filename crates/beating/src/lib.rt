@@ -5,6 +5,8 @@
 mod combining;
 mod examples;
 mod folds;
+mod laws;
+mod positions;
 #[cfg(test)]
 mod run_tests;
 mod runs;
@@ -17,6 +19,8 @@ mod tests;
 
 pub use examples::run_examples;
 pub use folds::{fold1, fold2};
+pub use laws::fold_laws;
+pub use positions::item_of;
 pub use runs::{Run, as_progression, one_progression};
 pub use selecting::select;
 pub use selections::{Item, Selection};

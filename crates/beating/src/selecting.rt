@@ -1,7 +1,7 @@
 ghost use Rattle.std.specs.Prelude.{◌≡◌, ℕ, false, List, [], ◌∷◌, Some};
 ghost use Rattle.array_store.specs.Stores.{StoreView};
 ghost use Rattle.array_desc.specs.Desc.{IsDesc};
-ghost use Rattle.drag_along.specs.Nodes.{leaf_desc, leaf_shape, AllLeaves, pending_after};
+ghost use Rattle.drag_along.specs.Nodes.{leaf_desc, leaf_shape, AllLeaves, functions_in, stored_in, pending_after};
 ghost use Rattle.drag_along.specs.Segments.{IsSegment, named_by};
 ghost use Rattle.drag_along.specs.Meaning.{entry};
 ghost use Rattle.drag_along.specs.Lawful.{IsLawful};
@@ -28,6 +28,8 @@ pub fn select(s: &mut Segment, by: &Selection)
     ensures meaning { (store : StoreView) → IsLawful store s.old
         → entry store s.new ≡ selected_meaning by.now (entry store s.old) }
     ensures leaves { (key : ℕ) → named_by s.new key ≡ named_by s.old key }
+    ensures functions { functions_in s.new.nodes ≡ functions_in s.old.nodes }
+    ensures stored { stored_in s.new.nodes ≡ stored_in s.old.nodes }
 {
     select_leaves(&mut s.nodes, by);
     s.shape = shape_of(&s.nodes);

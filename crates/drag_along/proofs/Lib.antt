@@ -6,3 +6,6 @@ pub mod JoinLemmas
 pub mod KeptLemmas
 pub mod StepLemmas
 pub mod EntryLemmas
+pub mod OneLeafLemmas
+pub mod ViewLemmas
+pub mod HoldingLemmas

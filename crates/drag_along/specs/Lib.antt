@@ -5,3 +5,4 @@ pub mod Lawful
 pub mod Laws
 pub mod Examples
 pub mod Views
+pub mod Holding

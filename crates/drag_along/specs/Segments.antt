@@ -1,5 +1,5 @@
 -- Segments: pending expressions, as contracts see them.
-use Rattle.std.specs.Prelude.{◌≡◌, ℕ, ◌≤◌, ◌==◌, Bool, false, not, ◌&&◌, ◌||◌, List, [], ◌∷◌, ◌++◌, Some}
+use Rattle.std.specs.Prelude.{◌≡◌, ℕ, ◌<◌, ◌≤◌, ◌==◌, Bool, true, false, not, ◌&&◌, ◌||◌, List, [], ◌∷◌, ◌++◌, Some}
 use Rattle.apl_base.specs.declared.cells.Kind.{Kind}
 use Rattle.apl_base.specs.declared.cells.Kind.TheVariants.{Num}
 use Rattle.apl_base.specs.declared.cells.Interval.{Interval}
@@ -36,12 +36,14 @@ pub record HasShape (shape : List ℕ) (leaf : Leaf) : Type 0 where
   pub same : leaf_shape leaf ≡ shape
 
 -- what is so of every segment: each leaf has its shape, the nodes leave one value, at most 64 of them are
--- functions, the kind is that of its one leaf or number, and the range is an interval of numbers
+-- functions, there is one where it may fail, the kind is that of its one leaf or number, and the range is an
+-- interval of numbers
 pub record IsSegment (segment : SegmentView) : Type 0 where
   pub shape : IsShape segment.shape
   pub leaves : AllLeaves (HasShape segment.shape) segment.nodes
   pub whole : pending_after segment.nodes 0 ≡ Some 1
   pub functions : functions_in segment.nodes ≤ 64
+  pub failing : segment.may_fail ≡ true → 0 < functions_in segment.nodes
   pub kind : segment.kind ≡ kind_of_nodes segment.nodes
   pub range : IsInterval segment.range
 

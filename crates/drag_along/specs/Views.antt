@@ -1,10 +1,10 @@
 -- Leaves that read a whole owner, and what is so of a leaf that is answered.
-use Rattle.std.specs.Prelude.{◌≡◌, ℕ, List, Option, Some, None, [], ◌∷◌}
+use Rattle.std.specs.Prelude.{◌≡◌, ℕ, ◌<◌, length, List, Option, Some, None, [], ◌∷◌}
 use Rattle.apl_base.specs.declared.cells.Kind.{Kind}
 use Rattle.apl_base.specs.declared.cells.Kind.TheVariants.{Num}
-use Rattle.apl_base.specs.Array.{Array}
+use Rattle.apl_base.specs.Array.{Array, size_of}
 use Rattle.array_desc.specs.Desc.{DescView, IsWhole}
-use Rattle.array_store.specs.Stores.{StoreView}
+use Rattle.array_store.specs.Stores.{StoreView, holders_of, cells_of, kind_of}
 use Rattle.drag_along.specs.declared.leaves.Leaf.{Leaf}
 use Rattle.drag_along.specs.declared.leaves.Leaf.TheVariants.{Stored, Gen}
 use Rattle.drag_along.specs.declared.nodes.Node.{Node}
@@ -19,6 +19,19 @@ pub record IsWholeView (owner : ℕ) (lengths : List ℕ) (kind : Kind) (leaf : 
   pub desc : DescView
   pub whole : IsWhole lengths desc
   pub is : leaf ≡ Stored owner desc kind
+
+-- somebody holds the owner, and it has just as many cells as the shape has places
+pub record FillsShape (store : StoreView) (owner : ℕ) (lengths : List ℕ) : Type 0 where
+  pub live : 0 < holders_of store owner
+  pub count : length (cells_of store owner) ≡ size_of lengths
+
+-- all cells of an owner, as an array of this shape
+abbrev pub owner_array : StoreView → ℕ → List ℕ → Array
+owner_array store owner lengths = record {
+  kind = kind_of store owner;
+  shape = lengths;
+  cells = cells_of store owner;
+}
 
 -- over a store a leaf is lawful and stands for this array
 pub record StandsForArray (store : StoreView) (leaf : Leaf) (a : Array) : Type 0 where

@@ -1,11 +1,16 @@
-ghost use Rattle.std.specs.Prelude.{◌≡◌, ℕ, ◌<◌, ◌↔◌, IsTrue, List};
+ghost use Rattle.std.specs.Prelude.{◌≡◌, ℕ, ◌<◌, ◌≤◌, ◌↔◌, IsTrue, List};
 ghost use Rattle.apl_base.specs.Array.{IsIndex};
 ghost use Rattle.apl_base.specs.Interval.{InInterval, IsInterval};
 ghost use Rattle.array_desc.specs.Desc.{IsDesc};
+ghost use Rattle.array_store.specs.Stores.{IsStore};
+ghost use Rattle.array_store.specs.Follows.{Follows, Holds, none};
 ghost use Rattle.drag_along.specs.Nodes.{leaf_desc, leaf_kind, leaf_shape, named_by_leaf};
+ghost use Rattle.drag_along.specs.Meaning.{leaf_array};
 ghost use Rattle.drag_along.specs.Lawful.{IsLawfulLeaf, IsLeafInterval, LeafWithin};
+ghost use Rattle.drag_along.specs.Views.{IsWholeView, StandsForArray};
+ghost use Rattle.drag_along.specs.Holding.{MayBeHeld, HeldOnceMore};
 
-use apl_base::{Interval, Kind};
+use apl_base::{Interval, Kind, Shape};
 use array_desc::Desc;
 use array_store::{OwnerId, Store};
 
@@ -41,6 +46,40 @@ impl Leaf {
                 desc: desc.copy(),
                 kind: *kind,
             },
+        }
+    }
+
+    /// The same leaf again, whose owner, where it names one, is held once more. It takes no memory.
+    pub fn held(&self, store: &mut Store) -> Leaf
+        requires lawful { IsLawfulLeaf store.old self.now }
+        requires holders { MayBeHeld store.old u128.MAX self.now }
+        ensures same { result ≡ self.now }
+        ensures held { HeldOnceMore store.old store.new self.now }
+        ensures stands { StandsForArray store.new result
+            (leaf_array store.old (leaf_shape self.now) self.now) }
+        ensures follows { Follows store.old store.new none (named_by_leaf self.now) }
+        ensures store { IsStore store.new }
+    {
+        // It tells the proof that the store is one.
+        let _counts = store.counts();
+        if let Leaf::Stored { owner, .. } = self {
+            store.hold(*owner);
+        }
+        self.copy()
+    }
+
+    /// Lets the leaf go. The owner that it names has a holder less, and is freed with its last one.
+    pub fn release(self, store: &mut Store)
+        requires { Holds store.old (named_by_leaf self) }
+        ensures follows { Follows store.old store.new (named_by_leaf self) none }
+        ensures counts { store.new.counts ≡ store.old.counts }
+        ensures live { store.new.live ≤ store.old.live }
+        ensures store { IsStore store.new }
+    {
+        // It tells the proof that the store is one.
+        let _counts = store.counts();
+        if let Leaf::Stored { owner, .. } = self {
+            store.release(owner);
         }
     }
 
@@ -84,5 +123,17 @@ pub fn leaf_interval(leaf: &Leaf, store: &Store) -> Interval
     match leaf {
         Leaf::Stored { owner, .. } => store.interval(*owner),
         Leaf::Gen { desc, .. } => desc.least_and_greatest(),
+    }
+}
+
+/// The leaf that reads all cells of an owner, in row-major order, as an array of this shape and kind. It takes no
+/// memory.
+pub fn whole_view(owner: OwnerId, shape: &Shape, kind: Kind) -> Leaf
+    ensures { IsWholeView owner shape.now kind result }
+{
+    Leaf::Stored {
+        owner,
+        desc: Desc::whole(shape),
+        kind,
     }
 }

@@ -11,7 +11,7 @@ mod segments;
 mod tests;
 
 pub use examples::meaning_examples;
-pub use laws::{meaning_laws, store_laws};
-pub use leaves::{Leaf, leaf_interval};
+pub use laws::{leaf_laws, meaning_laws, store_laws, view_laws};
+pub use leaves::{Leaf, leaf_interval, whole_view};
 pub use nodes::Node;
 pub use segments::{Segment, join1, join2};

@@ -3,17 +3,19 @@ ghost use Rattle.apl_base.specs.Interval.{IsInterval};
 ghost use Rattle.apl_base.specs.Scalar.{scalar1, scalar2};
 ghost use Rattle.value_range.specs.Interval.{ranged1, ranged2};
 ghost use Rattle.value_range.specs.Sound.{IsSound1, IsSound2};
-ghost use Rattle.array_store.specs.Stores.{StoreView};
-ghost use Rattle.array_store.specs.Follows.{both};
-ghost use Rattle.drag_along.specs.Nodes.{functions_in, stored_in, leaf_shape, named_by_leaf};
+ghost use Rattle.std.specs.Option.{option_copied};
+ghost use Rattle.array_store.specs.Stores.{StoreView, IsStore};
+ghost use Rattle.array_store.specs.Follows.{Follows, Holds, both, none};
+ghost use Rattle.drag_along.specs.Nodes.{functions_in, leaf_shape, named_by_leaf, named_by_nodes};
 ghost use Rattle.drag_along.specs.Segments.{IsSegment, named_by, side_of, leaf_segment, joined1, joined2, may_fail_at};
 ghost use Rattle.drag_along.specs.Meaning.{Means, leaf_array, combined1, combined2, entry};
 ghost use Rattle.drag_along.specs.Lawful.{IsLawfulLeaf, LeafWithin, IsLawful};
+ghost use Rattle.drag_along.specs.Views.{only_leaf};
 
 use crate::leaves::Leaf;
 use crate::nodes::Node;
 use apl_base::{Dya, Interval, Kind, Mon, NoMemory, Place, Shape};
-use array_store::OwnerId;
+use array_store::{OwnerId, Store};
 use std::alloc::Global;
 use std::marker::Model;
 use value_range::{Ranged, Side, range1, range2};
@@ -77,6 +79,28 @@ impl Segment {
         })
     }
 
+    /// The leaf that is all of it, where one is.
+    pub fn only_leaf(&self) -> Option<&Leaf>
+        ensures found { option_copied result ≡ only_leaf self.now.nodes }
+        ensures segment { IsSegment self.now }
+    {
+        match self.nodes.as_slice() {
+            [Node::Operand { leaf }] => Some(leaf),
+            _ => None,
+        }
+    }
+
+    /// Lets the segment go. Each owner has a holder less for each leaf that names it, and is freed with its last one.
+    pub fn release(self, store: &mut Store)
+        requires { Holds store.old (named_by self) }
+        ensures follows { Follows store.old store.new (named_by self) none }
+        ensures counts { store.new.counts ≡ store.old.counts }
+        ensures live { store.new.live ≤ store.old.live }
+        ensures store { IsStore store.new }
+    {
+        release_nodes(self.nodes, store);
+    }
+
     /// How many of its nodes are functions.
     pub fn functions(&self) -> usize
         ensures value { result ≡ functions_in self.now.nodes }
@@ -104,6 +128,23 @@ impl Segment {
             }
         }
         false
+    }
+}
+
+// Lets the leaves among the nodes go.
+fn release_nodes(nodes: Vec<Node>, store: &mut Store)
+    requires { Holds store.old (named_by_nodes nodes.items) }
+    ensures follows { Follows store.old store.new (named_by_nodes nodes.items) none }
+    ensures counts { store.new.counts ≡ store.old.counts }
+    ensures live { store.new.live ≤ store.old.live }
+    ensures store { IsStore store.new }
+{
+    // It tells the proof that the store is one.
+    let _counts = store.counts();
+    for node in nodes {
+        if let Node::Operand { leaf } = node {
+            leaf.release(store);
+        }
     }
 }
 

@@ -8,7 +8,7 @@ use Rattle.apl_base.specs.Number.{IsCell}
 use Rattle.apl_base.specs.Selection.{upward}
 use Rattle.iter_stack.specs.Indices.{walk}
 use Rattle.iter_stack.proofs.Walks.{Next, walk-next, walk-all}
-use Rattle.array_store.specs.Stores.{StoreView, Makes, new_owner}
+use Rattle.array_store.specs.Stores.{StoreView, HasRoom, Makes, new_owner}
 use Rattle.array_store.specs.Counting.{OnlyFetched}
 use Rattle.drag_along.specs.declared.leaves.Leaf.{Leaf}
 use Rattle.drag_along.specs.Nodes.{leaf_kind, leaf_shape}
@@ -16,7 +16,7 @@ use Rattle.drag_along.specs.Meaning.{leaf_cell, leaf_element, leaf_array}
 use Rattle.drag_along.specs.Lawful.{IsLawfulLeaf}
 use Rattle.drag_along.specs.Views.{IsWholeView}
 use Rattle.drag_along.proofs.LawfulLemmas.{leaf_array-form}
-use Rattle.e_machine.specs.Forced.{HasRoom, IsRead, IsCopy}
+use Rattle.e_machine.specs.Forced.{IsRead, IsCopy}
 use Rattle.e_machine.proofs.CountedLemmas.{lawful_leaf-counted, leaf_cell-counted, OnlyFetched-none, OnlyFetched-then, IsRead-fetched, IsRead-small}
 use Rattle.e_machine.proofs.WholeLemmas.{upward-push, stands-made}
 
@@ -105,8 +105,11 @@ IsCopy-made old between new leaf copy key cells f are makes view =
     let made : Makes between new key (new_owner all (leaf_kind leaf)) =
     subst (λ (cs : List ℤ). Makes between new key (new_owner cs (leaf_kind leaf))) are makes in
     record {
-      key = key;
-      view = view;
-      made = record { between = between; counts = f; makes = made };
+      made = record {
+        key = key;
+        count = length-leaf_array old leaf;
+        view = view;
+        made = record { between = between; counts = f; makes = made };
+      };
       stands = stands-made between new key all (leaf_shape leaf) (leaf_kind leaf) copy made (length-leaf_array old leaf) view;
     }

@@ -4,7 +4,7 @@ use Rattle.array_store.specs.declared.ids.Counts.{Counts}
 use Rattle.array_store.specs.Stores.{StoreView, counted}
 use Rattle.array_store.specs.Follows.{Follows, none}
 use Rattle.array_store.specs.Counting.{OnlyCounted, OnlyFetched}
-use Rattle.array_store.proofs.FollowsLemmas.{follows_counts}
+use Rattle.array_store.proofs.FollowsLemmas.{follows_counts, follows_same}
 use Rattle.drag_along.specs.declared.leaves.Leaf.{Leaf}
 use Rattle.drag_along.specs.declared.leaves.Leaf.TheVariants.{Stored, Gen}
 use Rattle.drag_along.specs.Meaning.{leaf_cell, leaf_array}
@@ -41,6 +41,10 @@ leaf_array-counted old new shape leaf only =
 pub follows-counted : (old new : StoreView) → OnlyCounted old new → Follows old new none none
 follows-counted old new only =
     subst (λ (s : StoreView). Follows old s none none) (sym only) (follows_counts old new.counts)
+
+-- nor does what did nothing
+pub follows-unchanged : (old new : StoreView) → new ≡ old → Follows old new none none
+follows-unchanged old new e = subst (λ (s : StoreView). Follows old s none none) (sym e) (follows_same old none)
 
 -- one count after another
 pub OnlyCounted-then : (a b c : StoreView) → OnlyCounted a b → OnlyCounted b c → OnlyCounted a c

@@ -1,32 +1,30 @@
 -- Lemmas on what is answered: leaves that stand for what a segment means, and what was counted.
-use Rattle.std.proofs.Common.{◌≡◌, ℕ, zero, suc, ◌+◌, ◌^◌, ◌<◌, ◌≤◌, ℤ, pos, false, IsTrue, List, [], ◌∷◌, length, map, get_or, Option, Some, refl, sym, ap, ◌∙◌, subst, arith}
+use Rattle.std.proofs.Common.{◌≡◌, ℕ, zero, suc, ◌^◌, ◌<◌, ◌≤◌, ℤ, false, IsTrue, List, [], ◌∷◌, Option, Some, None, refl, sym, ap, ◌∙◌, subst, arith}
 use Rattle.std.specs.Prelude.{slice_get}
 use Rattle.std.specs.Option.{option_map}
 use Rattle.std.specs.List.{AllByRecursion}
-use Rattle.std.proofs.lemmas.List.{length-map, get_or-map}
 use Rattle.apl_base.specs.declared.cells.Kind.TheVariants.{Num}
 use Rattle.apl_base.specs.declared.cells.Elem.{Elem}
 use Rattle.apl_base.specs.declared.cells.Interval.{Interval}
 use Rattle.apl_base.specs.declared.faults.Place.{Place}
-use Rattle.apl_base.specs.Array.{Array, IsIndex, size_of, index_at, place_at}
+use Rattle.apl_base.specs.Array.{Array, IsIndex}
 use Rattle.apl_base.specs.Interval.{InInterval}
-use Rattle.apl_base.specs.Selection.{upward}
-use Rattle.apl_base.proofs.Sizes.{index_at-place_at, place_at-below}
 use Rattle.array_store.specs.declared.ids.Counts.{Counts}
-use Rattle.array_store.specs.Stores.{StoreView, IsStore, counted, new_owner, Makes}
-use Rattle.array_store.specs.Counting.{OnlyCounted, RoseBy, OnlyComputed, Computed}
+use Rattle.array_store.specs.Stores.{StoreView, IsStore, HasRoom, counted, new_owner, Makes}
+use Rattle.array_store.specs.Counting.{RoseBy, OnlyComputed, Computed}
 use Rattle.array_store.proofs.StoreLemmas.{IsStore-counted}
-use Rattle.iter_stack.proofs.Walks.{length-upward, get_or-upward}
 use Rattle.drag_along.specs.declared.leaves.Leaf.{Leaf}
 use Rattle.drag_along.specs.declared.nodes.Node.{Node}
 use Rattle.drag_along.specs.declared.nodes.Node.TheVariants.{Operand, One, Two}
-use Rattle.drag_along.specs.Nodes.{leaf_shape, AllLeaves, functions_in, node_place}
-use Rattle.drag_along.specs.Segments.{SegmentView, IsSegment, HasShape}
-use Rattle.drag_along.specs.Meaning.{Means, Faults, pending, leaf_cell, leaf_array, value_at, fails_on, fails_at, IsFirstFault, after_nodes, newest, entry}
+use Rattle.drag_along.specs.Nodes.{leaf_shape, functions_in, node_place}
+use Rattle.drag_along.specs.Segments.{SegmentView, IsSegment}
+use Rattle.drag_along.specs.Meaning.{Means, Faults, leaf_array, value_at, fails_on, fails_at, IsFirstFault}
 use Rattle.drag_along.specs.Lawful.{LeafWithin, MeansWithin, IsLawful}
 use Rattle.drag_along.specs.Views.{IsWholeView, StandsForArray, only_leaf}
+use Rattle.drag_along.specs.Holding.{HeldOnceMore}
 use Rattle.drag_along.proofs.EntryLemmas.{only_meaning}
-use Rattle.e_machine.specs.Forced.{HasRoom, IsValueOf, IsMade, IsFault, elements_of, applications, fetches}
+use Rattle.drag_along.proofs.OneLeafLemmas.{one_leaf_means, array_within}
+use Rattle.e_machine.specs.Forced.{IsHeld, IsMade, IsHeldOrMade, IsForced, IsFault, elements_of, applications, fetches}
 use Rattle.e_machine.specs.Runs.{Rises, ComputedJust, ComputedUpTo, HasElements}
 use Rattle.e_machine.proofs.WholeLemmas.{stands-made}
 
@@ -73,31 +71,12 @@ store_computed s t functions cells h store =
 
 -- ---- leaves that stand for arrays
 
-by_index : {X : Type 0} (P : X → Type 0) (xs : List X) (k : ℕ) (d : X) → AllByRecursion P xs → k < length xs → P (get_or xs k d)
-by_index P [] k d h below = absurd (omega (arith, below))
-by_index P (x ∷ xs) zero d h below = h.0
-by_index P (x ∷ xs) (suc k) d h below = by_index P xs k d h.1 (omega (arith, below))
-
--- what stands at a place in the list of all places' values
-mapped_at : (f : ℕ → ℤ) (n k : ℕ) → k < n → get_or (map f (upward 0 n)) k (pos 0) ≡ f k
-mapped_at f n k below =
-    get_or-map f (upward 0 n) k 0 (pos 0) (omega (arith, below, length-upward 0 n))
-    ∙ ap f (get_or-upward 0 n k 0 below ∙ (let e : 0 + k ≡ k = omega arith in e))
-
 -- a leaf's elements lie where the cells of its array do
 pub stands_within : (s : StoreView) (leaf : Leaf) (a : Array) (range : Interval) → StandsForArray s leaf a → AllByRecursion (InInterval range) a.cells → LeafWithin s leaf range
 stands_within s leaf a range stands all = λ i index.
-    let here : IsIndex a.shape i = subst (λ (ns : List ℕ). IsIndex ns i) stands.shape.same index in
-    let below : place_at a.shape i < size_of a.shape = place_at-below a.shape i here in
-    let cell : ℕ → ℤ = λ p. leaf_cell s leaf (index_at a.shape p) in
-    let cells : map cell (upward 0 (size_of a.shape)) ≡ a.cells = ap (λ (x : Array). x.cells) stands.array in
-    let many : length a.cells ≡ size_of a.shape = sym (ap length cells) ∙ length-map (upward 0 (size_of a.shape)) cell ∙ length-upward 0 (size_of a.shape) in
-    let read : get_or a.cells (place_at a.shape i) (pos 0) ≡ leaf_cell s leaf i =
-    ap (λ (cs : List ℤ). get_or cs (place_at a.shape i) (pos 0)) (sym cells)
-    ∙ mapped_at cell (size_of a.shape) (place_at a.shape i) below
-    ∙ ap (leaf_cell s leaf) (index_at-place_at a.shape i here)
-    in
-    subst (InInterval range) read (by_index (InInterval range) a.cells (place_at a.shape i) (pos 0) all (omega (arith, below, many)))
+    array_within s a.shape leaf range
+    (subst (λ (x : Array). AllByRecursion (InInterval range) x.cells) (sym stands.array) all)
+    i (subst (λ (ns : List ℕ). IsIndex ns i) stands.shape.same index)
 
 -- ---- what is answered
 
@@ -129,51 +108,39 @@ answer_fault old new g k x place seg fault there is room small cost = record {
 }
 
 -- the array of the cells, in a leaf that reads a new owner
-pub answer_value : (old between new : StoreView) (g : SegmentView) (cells : List ℤ) (key : ℕ) (leaf : Leaf) → IsSegment g → HasElements old between g cells → IsWholeView key g.shape Num leaf → Makes between new key (new_owner cells Num) → IsValueOf old new g leaf
-answer_value old between new g cells key leaf seg has view makes = record {
-  array = record { kind = Num; shape = g.shape; cells = cells };
-  means = sym (only_meaning old g (Means (record { kind = Num; shape = g.shape; cells = cells })) seg has.array);
-  stands = stands-made between new key cells g.shape Num leaf makes has.array.count view;
-}
-
-pub answer_made : (old between new : StoreView) (g : SegmentView) (cells : List ℤ) (key : ℕ) (leaf : Leaf) → IsSegment g → AreMachineCounts old.counts → HasElements old between g cells → IsWholeView key g.shape Num leaf → Makes between new key (new_owner cells Num) → IsMade old new g leaf
-answer_made old between new g cells key leaf seg small has view makes = record {
-  key = key;
-  array = record { kind = Num; shape = g.shape; cells = cells };
-  means = sym (only_meaning old g (Means (record { kind = Num; shape = g.shape; cells = cells })) seg has.array);
-  view = view;
-  made = record {
-    between = between;
-    counts = computed_all old between (applications g) (fetches g) small has.just;
-    makes = makes;
-  };
-}
-
--- a segment of one leaf means that leaf's array
-one_node : (xs : List Node) (leaf : Leaf) → only_leaf xs ≡ Some leaf → xs ≡ Operand leaf ∷ []
-one_node [] leaf e = absurd (cc)
-one_node (Operand m ∷ []) leaf e = ap (λ (l : Leaf). Operand l ∷ []) (same m leaf e)
-  where
-    same : (a b : Leaf) → Some a ≡ Some b → a ≡ b
-    same a b e = cc
-one_node (Operand m ∷ x ∷ xs) leaf e = absurd (cc)
-one_node (One f p ∷ xs) leaf e = absurd (cc)
-one_node (Two f p ∷ xs) leaf e = absurd (cc)
-
-entry_of_leaf : (s : StoreView) (g : SegmentView) (leaf : Leaf) → only_leaf g.nodes ≡ Some leaf → entry s g ≡ Means (leaf_array s g.shape leaf)
-unfolding entry
-entry_of_leaf s g leaf one = ap (λ (xs : List Node). newest (after_nodes s g.shape xs (pending []))) (one_node g.nodes leaf one)
-
-pub answer_held : (old new : StoreView) (g : SegmentView) (leaf held : Leaf) → IsSegment g → only_leaf g.nodes ≡ Some leaf → StandsForArray new held (leaf_array old (leaf_shape leaf) leaf) → IsValueOf old new g held
-answer_held old new g leaf held seg one stands =
-    let leaves : AllLeaves (HasShape g.shape) (Operand leaf ∷ []) = subst (AllLeaves (HasShape g.shape)) (one_node g.nodes leaf one) seg.leaves in
+pub answer_made : (old between new : StoreView) (g : SegmentView) (cells : List ℤ) (key : ℕ) (leaf : Leaf) → IsSegment g → only_leaf g.nodes ≡ None → AreMachineCounts old.counts → HasElements old between g cells → IsWholeView key g.shape Num leaf → Makes between new key (new_owner cells Num) → IsForced old new g leaf
+answer_made old between new g cells key leaf seg many small has view makes =
+    let a : Array = record { kind = Num; shape = g.shape; cells = cells } in
+    let made : IsMade old new g a leaf = record {
+      key = key;
+      count = has.array.count;
+      view = view;
+      made = record {
+        between = between;
+        counts = computed_all old between (applications g) (fetches g) small has.just;
+        makes = makes;
+      };
+    } in
     record {
-      array = leaf_array old (leaf_shape leaf) leaf;
-      means = entry_of_leaf old g leaf one ∙ ap (λ (ns : List ℕ). Means (leaf_array old ns leaf)) (sym leaves.0.same);
+      array = a;
+      means = sym (only_meaning old g (Means a) seg has.array);
+      stands = stands-made between new key cells g.shape Num leaf makes has.array.count view;
+      comes = subst (λ (o : Option Leaf). IsHeldOrMade old new g a o leaf) (sym many) made;
+    }
+
+-- the one leaf, held once more
+pub answer_held : (old new : StoreView) (g : SegmentView) (leaf held : Leaf) → IsSegment g → only_leaf g.nodes ≡ Some leaf → held ≡ leaf → HeldOnceMore old new leaf → StandsForArray new held (leaf_array old (leaf_shape leaf) leaf) → IsForced old new g held
+answer_held old new g leaf held seg one same more stands =
+    let a : Array = leaf_array old (leaf_shape leaf) leaf in
+    let is_held : IsHeld old new leaf held = record { same = same; held = more } in
+    record {
+      array = a;
+      means = one_leaf_means old g leaf seg one;
       stands = stands;
+      comes = subst (λ (o : Option Leaf). IsHeldOrMade old new g a o held) (sym one) is_held;
     }
 
 -- the elements of what is answered lie in the segment's range, where it may not fail
-pub answer_within : (old new : StoreView) (g : SegmentView) (leaf : Leaf) → IsLawful old g → IsValueOf old new g leaf → g.may_fail ≡ false → LeafWithin new leaf g.range
+pub answer_within : (old new : StoreView) (g : SegmentView) (leaf : Leaf) → IsLawful old g → IsForced old new g leaf → g.may_fail ≡ false → LeafWithin new leaf g.range
 answer_within old new g leaf lawful value safe =
     stands_within new leaf value.array g.range value.stands (subst (MeansWithin g.range) value.means (lawful.sound safe))

@@ -1,16 +1,18 @@
 -- What the calls that compute elements answer and what they leave.
-use Rattle.std.specs.Prelude.{◌≡◌, ℕ, ◌+◌, ◌*◌, ◌<◌, ◌≤◌, Option, None, Some}
+use Rattle.std.specs.Prelude.{◌≡◌, ℕ, ◌*◌, length, Option, None, Some, Result, Ok, Err}
 use Rattle.apl_base.specs.declared.faults.Place.{Place}
 use Rattle.apl_base.specs.Array.{Array, size_of}
-use Rattle.array_store.specs.Stores.{StoreView, holders_of, new_owner, with_holders, counted}
-use Rattle.array_store.specs.Counting.{OnlyFetched, OnlyComputed, Computed, MakesAfter}
+use Rattle.array_store.specs.Stores.{StoreView, HasRoom, new_owner, counted}
+use Rattle.array_store.specs.Counting.{OnlyFetched, OnlyComputed, Computed, IsFull, MakesAfter}
+use Rattle.array_store.specs.Follows.{none}
 use Rattle.array_store.specs.declared.ids.BeginFault.{BeginFault}
 use Rattle.array_store.specs.declared.ids.BeginFault.TheVariants as begin
 use Rattle.drag_along.specs.declared.leaves.Leaf.{Leaf}
 use Rattle.drag_along.specs.declared.leaves.Leaf.TheVariants.{Stored, Gen}
-use Rattle.drag_along.specs.Nodes.{leaf_kind, leaf_shape, stored_in, functions_in, named_by_leaf}
+use Rattle.drag_along.specs.Nodes.{leaf_shape, stored_in, functions_in, named_by_leaf}
 use Rattle.drag_along.specs.Segments.{SegmentView}
 use Rattle.drag_along.specs.Meaning.{Means, Faults, leaf_array, entry}
+use Rattle.drag_along.specs.Holding.{HeldOnceMore}
 use Rattle.drag_along.specs.Views.{IsWholeView, StandsForArray, only_leaf}
 use Rattle.e_machine.specs.declared.faults.ForceFault.{ForceFault}
 use Rattle.e_machine.specs.declared.faults.ForceFault.TheVariants as force
@@ -26,47 +28,46 @@ applications segment = elements_of segment * functions_in segment.nodes
 abbrev pub fetches : SegmentView → ℕ
 fetches segment = elements_of segment * stored_in segment.nodes
 
--- the owner of the leaf, where it has one, may be held once more
-abbrev pub MayBeHeld : StoreView → ℕ → Leaf → Type 0
-MayBeHeld store most leaf = (key : ℕ) → 0 < named_by_leaf leaf key → holders_of store key < most
-
--- the owner of the leaf, where it has one, has a holder more, and nothing else changed
-abbrev pub HeldOnceMore : StoreView → StoreView → Leaf → Type 0
-HeldOnceMore old new (Stored owner desc kind) = new ≡ with_holders old owner (holders_of old owner + 1)
-HeldOnceMore old new (Gen desc kind) = new ≡ old
-
--- there is room for so many cells more
-abbrev pub HasRoom : StoreView → ℕ → Type 0
-HasRoom store asked = store.live + asked ≤ store.limit
-
 -- where the segment has to be computed there is room for its elements
 abbrev pub HasRoomFor : StoreView → SegmentView → Type 0
 HasRoomFor store segment = only_leaf segment.nodes ≡ None → HasRoom store (elements_of segment)
 
--- ---- forcing
+-- ---- leaves that are answered
 
--- the leaf stands for the array that the segment meant
-pub record IsValueOf (old new : StoreView) (segment : SegmentView) (leaf : Leaf) : Type 0 where
-  pub array : Array
-  pub means : entry old segment ≡ Means array
-  pub stands : StandsForArray new leaf array
+-- a leaf that reads a new owner, which has just the cells of an array, one for each index; something was counted before
+pub record IsNewLeaf (Counts : StoreView → Type 0) (new : StoreView) (a : Array) (leaf : Leaf) : Type 0 where
+  pub key : ℕ
+  pub count : length a.cells ≡ size_of a.shape
+  pub view : IsWholeView key a.shape a.kind leaf
+  pub made : MakesAfter Counts new key (new_owner a.cells a.kind)
+
+-- the leaf that was answered, where one was, as leaves are counted
+abbrev pub named_by_answer : {E : Type 0} → Result Leaf E → ℕ → ℕ
+named_by_answer (Ok leaf) = named_by_leaf leaf
+named_by_answer (Err why) = none
+
+-- ---- forcing
 
 -- a segment that is one leaf was answered as that leaf, held once more
 pub record IsHeld (old new : StoreView) (only leaf : Leaf) : Type 0 where
   pub same : leaf ≡ only
   pub held : HeldOnceMore old new only
 
--- any other was computed into a new owner, which has just its elements; every function was applied at every element
-pub record IsMade (old new : StoreView) (segment : SegmentView) (leaf : Leaf) : Type 0 where
-  pub key : ℕ
+-- any other was computed into a new owner; every function was applied at every element
+abbrev pub IsMade : StoreView → StoreView → SegmentView → Array → Leaf → Type 0
+IsMade old new segment a leaf = IsNewLeaf (λ between. Computed old between (applications segment) (fetches segment)) new a leaf
+
+-- which of the two, by the leaf that is all of the segment, where one is
+abbrev pub IsHeldOrMade : StoreView → StoreView → SegmentView → Array → Option Leaf → Leaf → Type 0
+IsHeldOrMade old new segment a (Some only) leaf = IsHeld old new only leaf
+IsHeldOrMade old new segment a None leaf = IsMade old new segment a leaf
+
+-- the leaf stands for the array that the segment meant, and was held or made
+pub record IsForced (old new : StoreView) (segment : SegmentView) (leaf : Leaf) : Type 0 where
   pub array : Array
   pub means : entry old segment ≡ Means array
-  pub view : IsWholeView key array.shape array.kind leaf
-  pub made : MakesAfter (λ between. Computed old between (applications segment) (fetches segment)) new key (new_owner array.cells array.kind)
-
-abbrev pub IsForced : StoreView → StoreView → SegmentView → Option Leaf → Leaf → Type 0
-IsForced old new segment (Some only) leaf = IsHeld old new only leaf
-IsForced old new segment None leaf = IsMade old new segment leaf
+  pub stands : StandsForArray new leaf array
+  pub comes : IsHeldOrMade old new segment array (only_leaf segment.nodes) leaf
 
 -- the segment faults at a place, its elements had room, and nothing was done but to count
 pub record IsFault (old new : StoreView) (segment : SegmentView) (place : Place) : Type 0 where
@@ -74,32 +75,27 @@ pub record IsFault (old new : StoreView) (segment : SegmentView) (place : Place)
   pub room : HasRoom old (elements_of segment)
   pub counted : OnlyComputed old new (applications segment) (fetches segment)
 
--- there is no room for so many cells more, and nothing was done
-pub record IsFull (old new : StoreView) (size held wanted : ℕ) : Type 0 where
-  pub live : held ≡ old.live
-  pub asked : wanted ≡ size
-  pub full : old.limit < old.live + size
-  pub unchanged : new ≡ old
-
--- why a segment is not forced. That memory is wanting has no stated cause
+-- why a segment is not forced: one that is a leaf always is. That memory is wanting has no stated cause, but that
+-- there was room
 abbrev pub IsForceFault : StoreView → StoreView → SegmentView → ForceFault → Type 0
 IsForceFault old new segment (force.Fault place) = (only_leaf segment.nodes ≡ None) × IsFault old new segment place
 IsForceFault old new segment (force.WsFull live asked) = (only_leaf segment.nodes ≡ None) × IsFull old new (elements_of segment) live asked
-IsForceFault old new segment force.NoMemory = OnlyComputed old new (applications segment) (fetches segment)
+IsForceFault old new segment force.NoMemory =
+    (only_leaf segment.nodes ≡ None) × HasRoom old (elements_of segment)
+    × OnlyComputed old new (applications segment) (fetches segment)
 
 -- ---- copying
 
--- the new leaf reads a new owner, which has just the elements of the old one
+-- the new leaf reads a new owner, which has just the elements of the old one, and stands for the same array
 pub record IsCopy (old new : StoreView) (leaf copy : Leaf) : Type 0 where
-  pub key : ℕ
-  pub view : IsWholeView key (leaf_shape leaf) (leaf_kind leaf) copy
-  pub made : MakesAfter (λ between. OnlyFetched old between (size_of (leaf_shape leaf))) new key (new_owner (leaf_array old (leaf_shape leaf) leaf).cells (leaf_kind leaf))
+  pub made : IsNewLeaf (λ between. OnlyFetched old between (size_of (leaf_shape leaf))) new (leaf_array old (leaf_shape leaf) leaf) copy
   pub stands : StandsForArray new copy (leaf_array old (leaf_shape leaf) leaf)
 
 -- why a leaf is not copied
 abbrev pub IsCopyFault : StoreView → StoreView → Leaf → BeginFault → Type 0
 IsCopyFault old new leaf (begin.WsFull live asked) = IsFull old new (size_of (leaf_shape leaf)) live asked
-IsCopyFault old new leaf begin.NoMemory = OnlyFetched old new (size_of (leaf_shape leaf))
+IsCopyFault old new leaf begin.NoMemory =
+    HasRoom old (size_of (leaf_shape leaf)) × OnlyFetched old new (size_of (leaf_shape leaf))
 
 -- ---- reading
 

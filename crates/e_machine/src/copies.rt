@@ -1,20 +1,18 @@
 ghost use Rattle.std.specs.Prelude.{◌≡◌, ◌^◌, ◌<◌, ◌≤◌, [], ◌∷◌, ◌++◌, All, IfOk, IfErr, OnOk, vec_len, vec_capacity};
 ghost use Rattle.apl_base.specs.Array.{size_of};
 ghost use Rattle.apl_base.specs.Number.{IsCell};
-ghost use Rattle.array_store.specs.Stores.{IsStore};
+ghost use Rattle.array_store.specs.Stores.{IsStore, HasRoom};
 ghost use Rattle.array_store.specs.Counting.{OnlyFetched};
 ghost use Rattle.array_store.specs.Follows.{Follows, none};
-ghost use Rattle.drag_along.specs.Nodes.{leaf_kind, leaf_shape, named_by_leaf};
+ghost use Rattle.drag_along.specs.Nodes.{leaf_kind, leaf_shape};
 ghost use Rattle.drag_along.specs.Lawful.{IsLawfulLeaf};
 ghost use Rattle.drag_along.specs.Meaning.{leaf_array};
-ghost use Rattle.drag_along.specs.Views.{IsWholeView};
-ghost use Rattle.e_machine.specs.Forced.{HasRoom, IsCopy, IsCopyFault};
+ghost use Rattle.e_machine.specs.Forced.{IsCopy, IsCopyFault, named_by_answer};
 
 use crate::reads::read_at;
-use apl_base::{Cell, Kind, Shape};
-use array_desc::Desc;
-use array_store::{BeginFault, OwnerId, Store};
-use drag_along::Leaf;
+use apl_base::Cell;
+use array_store::{BeginFault, Store};
+use drag_along::{Leaf, whole_view};
 use iter_stack::Odometer;
 
 /// A copy of a leaf's elements in a new owner, also where the leaf reads a whole owner. `WsFull` comes exactly where
@@ -23,7 +21,7 @@ pub fn own(leaf: &Leaf, store: &mut Store) -> Result<Leaf, BeginFault>
     requires { IsLawfulLeaf store.old leaf.now }
     ensures copy { IfOk result (IsCopy store.old store.new leaf.now) }
     ensures room { OnOk result (HasRoom store.old (size_of (leaf_shape leaf.now))) }
-    ensures follows { IfOk result (λ copy. Follows store.old store.new none (named_by_leaf copy)) }
+    ensures follows { Follows store.old store.new none (named_by_answer result) }
     ensures refused { IfErr result (IsCopyFault store.old store.new leaf.now) }
     ensures store { IsStore store.new }
 {
@@ -32,17 +30,6 @@ pub fn own(leaf: &Leaf, store: &mut Store) -> Result<Leaf, BeginFault>
     read_all(leaf, store, &mut cells);
     let owner = store.make(cells, leaf.kind())?;
     Ok(whole_view(owner, &leaf.desc().shape, leaf.kind()))
-}
-
-// The leaf that reads all cells of an owner, as an array of this shape and kind.
-pub(crate) fn whole_view(owner: OwnerId, shape: &Shape, kind: Kind) -> Leaf
-    ensures { IsWholeView owner shape.now kind result }
-{
-    Leaf::Stored {
-        owner,
-        desc: Desc::whole(shape),
-        kind,
-    }
 }
 
 // Puts the leaf's elements, in row-major order, into an empty vector that has room for them.

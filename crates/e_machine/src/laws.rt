@@ -4,8 +4,9 @@ ghost use Rattle.array_store.specs.Follows.{Holds};
 ghost use Rattle.drag_along.specs.Segments.{named_by};
 ghost use Rattle.drag_along.specs.Meaning.{entry};
 ghost use Rattle.drag_along.specs.Lawful.{IsLawful, IsLawfulLeaf};
+ghost use Rattle.drag_along.specs.Holding.{MayBeHeld};
 ghost use Rattle.drag_along.specs.Views.{only_leaf};
-ghost use Rattle.e_machine.specs.Forced.{MayBeHeld, IsForceFault, IsCopyFault};
+ghost use Rattle.e_machine.specs.Forced.{IsForceFault, IsCopyFault};
 
 use crate::copies::own;
 use crate::faults::ForceFault;

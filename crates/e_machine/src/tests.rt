@@ -8,14 +8,14 @@ ghost use Rattle.drag_along.specs.declared.nodes.Node.TheVariants.{Operand};
 ghost use Rattle.drag_along.specs.Nodes.{functions_in, leaf_shape};
 ghost use Rattle.drag_along.specs.Segments.{named_by};
 ghost use Rattle.drag_along.specs.Lawful.{IsLawful, IsLawfulLeaf};
-ghost use Rattle.e_machine.specs.Forced.{MayBeHeld};
+ghost use Rattle.drag_along.specs.Holding.{MayBeHeld};
 
-use crate::copies::{read_all, whole_view};
+use crate::copies::read_all;
 use crate::{ForceFault, force, force_beside, own, own_beside, read_at};
 use apl_base::{Cell, Dya, Elem, Kind, Mon, NoMemory, Place, Shape, TooLarge};
 use array_desc::Desc;
 use array_store::{BeginFault, Counts, Store};
-use drag_along::{Leaf, Segment, join1, join2, leaf_interval};
+use drag_along::{Leaf, Segment, join1, join2, leaf_interval, whole_view};
 use std::alloc::{AllocError, Global};
 use std::test::Fail;
 

@@ -1,89 +1,31 @@
 -- Facts on the two walks over the indices of a shape.
-use Rattle.std.proofs.Common.{◌≡◌, ℕ, zero, suc, ◌+◌, ◌-◌, ◌*◌, ◌<◌, ◌≤◌, Bool, true, false, List, [], ◌∷◌, ◌++◌, map, length, get_or, set, drop, refl, sym, ap, ◌∙◌, inl, inr, arith, add-one}
-use Rattle.std.proofs.Math.Seq.{drop-cons, drop-length}
+use Rattle.std.proofs.Common.{◌≡◌, ℕ, ◌+◌, ◌-◌, ◌<◌, ◌≤◌, Bool, true, false, List, [], ◌∷◌, ◌++◌, map, length, get_or, drop, refl, sym, ap, ◌∙◌, inl, inr, arith, add-one}
+use Rattle.std.proofs.Math.Seq.{drop-cons}
 use Rattle.std.proofs.Math.ListN.{drop_of_length-le}
 use Rattle.std.proofs.lemmas.Bool.{cases_lt}
-use Rattle.std.proofs.lemmas.List.{map-append, length-map, length-drop, get_or-map}
-use Rattle.std.proofs.lemmas.Nat.{div-mul-add, mod-mul-add}
+use Rattle.std.proofs.lemmas.List.{length-map, length-drop, get_or-map}
 use Rattle.std.specs.Iterator.{Yields, YieldsFirstBy}
-use Rattle.std.specs.List.{flat_map}
 use Rattle.apl_base.specs.Array.{IsIndex, size_of, index_at}
-use Rattle.apl_base.specs.Selection.{upward}
-use Rattle.apl_base.proofs.Sizes.{IsIndex-length, IsIndex-index_at}
-use Rattle.iter_stack.specs.Indices.{indices, indices_back, from_the_end, walk, item}
+use Rattle.apl_base.specs.Elements.{indices}
+use Rattle.apl_base.proofs.Elements.{length-indices, indices-at}
+use Rattle.apl_base.proofs.Sizes.{IsIndex-length, IsIndex-index_at, IsIndex-below, IsIndex-set}
+use Rattle.iter_stack.specs.Indices.{indices_back, from_the_end, walk, item}
 
-pub length-upward : (a n : ℕ) → length (upward a n) ≡ n
-length-upward a zero = refl
-length-upward a (suc n) = ap suc (length-upward (suc a) n)
-
-pub get_or-upward : (a n k d : ℕ) → k < n → get_or (upward a n) k d ≡ a + k
-get_or-upward a zero k d h = absurd (omega arith)
-get_or-upward a (suc n) zero d h = omega arith
-get_or-upward a (suc n) (suc k) d h =
-    let less : k < n = omega arith in
-    let e : get_or (upward (suc a) n) k d ≡ suc a + k = get_or-upward (suc a) n k d less in
-    e ∙ omega arith
-
-upward-append : (a m n : ℕ) → upward a (m + n) ≡ upward a m ++ upward (a + m) n
-upward-append a zero n =
-    let e : a + 0 ≡ a = omega arith in
-    let f : 0 + n ≡ n = omega arith in
-    rw (e, f) refl
-upward-append a (suc m) n =
-    let e : suc m + n ≡ suc (m + n) = omega arith in
-    let f : a + suc m ≡ suc a + m = omega arith in
-    rw (e, f) (ap (λ xs. a ∷ xs) (upward-append (suc a) m n))
-
--- the indices at k places of the row a, from its number j on
-row : (m : ℕ) (ns : List ℕ) (a j k : ℕ) → j + k ≤ size_of ns → map (index_at (m ∷ ns)) (upward (a * size_of ns + j) k) ≡ map (λ is. a ∷ is) (map (index_at ns) (upward j k))
-row m ns a j zero h = refl
-row m ns a j (suc k) h =
-    let less : j < size_of ns = omega arith in
-    let next : suc (a * size_of ns + j) ≡ a * size_of ns + suc j = omega arith in
-    let more : suc j + k ≤ size_of ns = omega arith in
-    rw (next, div-mul-add a (size_of ns) j less, mod-mul-add a (size_of ns) j less, row m ns a (suc j) k more) refl
-
-zero_more : (x : ℕ) → x ≡ x + 0
-zero_more x = omega arith
-
--- the indices of n rows from the row a on
-rows : (m : ℕ) (ns : List ℕ) (a n : ℕ) → map (index_at (m ∷ ns)) (upward (a * size_of ns) (n * size_of ns)) ≡ flat_map (λ i. map (λ is. i ∷ is) (map (index_at ns) (upward 0 (size_of ns)))) (upward a n)
-rows m ns a zero = let e : 0 * size_of ns ≡ 0 = omega arith in rw e refl
-rows m ns a (suc n) =
-    let e : suc n * size_of ns ≡ size_of ns + n * size_of ns = omega arith in
-    let f : a * size_of ns + size_of ns ≡ suc a * size_of ns = omega arith in
-    let first : map (index_at (m ∷ ns)) (upward (a * size_of ns) (size_of ns)) ≡ map (λ is. a ∷ is) (map (index_at ns) (upward 0 (size_of ns))) =
-    ap (λ x. map (index_at (m ∷ ns)) (upward x (size_of ns))) (zero_more (a * size_of ns)) ∙ row m ns a 0 (size_of ns) (omega arith)
-    in
-    rw (e, upward-append (a * size_of ns) (size_of ns) (n * size_of ns), map-append, f, first, rows m ns (suc a) n) refl
-
-pub indices-places : (ns : List ℕ) → indices ns ≡ map (index_at ns) (upward 0 (size_of ns))
-indices-places [] = refl
-indices-places (n ∷ ns) =
-    let e : 0 * size_of ns ≡ 0 = omega arith in
-    rw (indices-places ns) (sym (rw e at (rows n ns 0 n)))
-
-pub length-indices : (ns : List ℕ) → length (indices ns) ≡ size_of ns
-length-indices ns = rw (indices-places ns, length-map, length-upward) refl
-
+-- as many items as elements
 pub length-walk : (back : Bool) (ns : List ℕ) → length (walk back ns) ≡ size_of ns
 length-walk true ns = length-map (indices ns) (from_the_end ns) ∙ length-indices ns
 length-walk false ns = length-indices ns
 
-pub indices-item : (ns : List ℕ) (p : ℕ) (d : List ℕ) → p < size_of ns → get_or (indices ns) p d ≡ index_at ns p
-indices-item ns p d h =
-    let below : p < length (upward 0 (size_of ns)) = rw (length-upward 0 (size_of ns)) h in
-    let here : get_or (upward 0 (size_of ns)) p 0 ≡ p = get_or-upward 0 (size_of ns) p 0 h ∙ omega arith in
-    rw (indices-places ns, get_or-map (index_at ns) (upward 0 (size_of ns)) p 0 d below, here) refl
-
+-- the item at a place of the walk backwards
 pub indices_back-item : (ns : List ℕ) (p : ℕ) (d : List ℕ) → p < size_of ns → get_or (indices_back ns) p d ≡ from_the_end ns (index_at ns p)
 indices_back-item ns p d h =
     let below : p < length (indices ns) = rw (length-indices ns) h in
-    get_or-map (from_the_end ns) (indices ns) p d d below ∙ ap (from_the_end ns) (indices-item ns p d h)
+    get_or-map (from_the_end ns) (indices ns) p d d below ∙ ap (from_the_end ns) (indices-at ns p d h)
 
+-- the item at a place
 pub walk-item : (back : Bool) (ns : List ℕ) (p : ℕ) (d : List ℕ) → p < size_of ns → get_or (walk back ns) p d ≡ item back ns p
 walk-item true ns p d h = indices_back-item ns p d h
-walk-item false ns p d h = indices-item ns p d h
+walk-item false ns p d h = indices-at ns p d h
 
 -- what is left of the walk at a place, and at its end
 pub walk-step : (back : Bool) (ns : List ℕ) (p : ℕ) → p < size_of ns → drop p (walk back ns) ≡ item back ns p ∷ drop (p + 1) (walk back ns)
@@ -91,24 +33,11 @@ walk-step back ns p h =
     let below : p < length (walk back ns) = rw (length-walk back ns) h in
     rw (add-one p, drop-cons (walk back ns) p [] below, walk-item back ns p [] h) refl
 
+-- after as many items as elements nothing is left
 pub walk-end : (back : Bool) (ns : List ℕ) → drop (size_of ns) (walk back ns) ≡ []
-walk-end back ns = rw (← length-walk back ns) (drop-length (walk back ns))
+walk-end back ns = drop_of_length-le (walk back ns) (omega (arith, length-walk back ns))
 
--- an index has a number below each length
-pub IsIndex-below : (ns is : List ℕ) (k : ℕ) → IsIndex ns is → k < length ns → get_or is k 0 < get_or ns k 0
-IsIndex-below [] [] k h b = absurd (omega arith)
-IsIndex-below (n ∷ ns) (i ∷ is) zero h b = h.0
-IsIndex-below (n ∷ ns) (i ∷ is) (suc k) h b = IsIndex-below ns is k h.1 (omega arith)
-IsIndex-below [] (i ∷ is) k h b = absurd h
-IsIndex-below (n ∷ ns) [] k h b = absurd h
-
-pub IsIndex-set : (ns is : List ℕ) (k v : ℕ) → IsIndex ns is → (k < length ns → v < get_or ns k 0) → IsIndex ns (set is k v)
-IsIndex-set [] [] k v h b = tt
-IsIndex-set (n ∷ ns) (i ∷ is) zero v h b = (b (omega arith), h.1)
-IsIndex-set (n ∷ ns) (i ∷ is) (suc k) v h b = (h.0, IsIndex-set ns is k v h.1 (λ l. b (omega arith)))
-IsIndex-set [] (i ∷ is) k v h b = absurd h
-IsIndex-set (n ∷ ns) [] k v h b = absurd h
-
+-- an index counted from the end of its last axis is an index
 pub IsIndex-from_the_end : (ns is : List ℕ) → IsIndex ns is → IsIndex ns (from_the_end ns is)
 IsIndex-from_the_end ns is h =
     IsIndex-set ns is (length ns - 1) (get_or ns (length ns - 1) 0 - 1 - get_or is (length ns - 1) 0) h
@@ -120,12 +49,14 @@ pub record Last (ns numbers : List ℕ) (last : ℕ) : Type 0 where
   pub axis : last < length ns
   pub below : get_or numbers last 0 < get_or ns last 0
 
+-- an index of a shape with axes has a last number
 pub last_number : (ns is numbers : List ℕ) (rank last : ℕ) → IsIndex ns is → numbers ≡ is → rank ≡ length ns → 1 ≤ rank → last ≡ rank - 1 → Last ns numbers last
 last_number ns is numbers rank last h same count some e =
     let axis : last < length ns = omega arith in
     let long : length is ≡ length ns = IsIndex-length ns is h in
     rw same record { there = omega arith; axis = omega arith; below = IsIndex-below ns is last h axis }
 
+-- each item is an index of the shape
 pub IsIndex-item : (back : Bool) (ns : List ℕ) (p : ℕ) → p < size_of ns → IsIndex ns (item back ns p)
 IsIndex-item true ns p h = IsIndex-from_the_end ns (index_at ns p) (IsIndex-index_at ns p h)
 IsIndex-item false ns p h = IsIndex-index_at ns p h
@@ -150,6 +81,7 @@ no_more back ns k i left e h =
     let apart : [] ≡ i ∷ left = sym none ∙ e in
     cc
 
+-- what comes next of what is left
 pub walk-next : (back : Bool) (ns : List ℕ) (k : ℕ) (i : List ℕ) (left : List (List ℕ)) → drop k (walk back ns) ≡ i ∷ left → Next back ns k i left
 walk-next back ns k i left e =
     elim (cases_lt k (size_of ns)) [

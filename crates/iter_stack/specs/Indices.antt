@@ -1,19 +1,14 @@
--- All indices of a shape, in the two orders in which they are walked. `ns` are the lengths.
-use Rattle.std.specs.Prelude.{ℕ, ◌-◌, Bool, List, [], ◌∷◌, map, length, if◌then◌else◌}
-use Rattle.std.specs.List.{flat_map}
+-- The two orders in which the indices of a shape are walked. `ns` are the lengths.
+use Rattle.std.specs.Prelude.{ℕ, ◌-◌, Bool, List, map, length, if◌then◌else◌}
 use Rattle.apl_base.specs.Array.{index_at}
-use Rattle.apl_base.specs.Selection.{upward, reverse_index}
-
--- all indices in row-major order: for each number of the first axis, all indices of the axes behind it
-abbrev pub indices : List ℕ → List (List ℕ)
-indices [] = [] ∷ []
-indices (n ∷ ns) = flat_map (λ i. map (λ is. i ∷ is) (indices ns)) (upward 0 n)
+use Rattle.apl_base.specs.Elements.{indices}
+use Rattle.apl_base.specs.Selection.{reverse_index}
 
 -- an index with its number on the last axis counted from that axis's end
 abbrev pub from_the_end : List ℕ → List ℕ → List ℕ
 from_the_end ns is = reverse_index ns (length ns - 1) is
 
--- the same order, but the last axis runs from its end to its start
+-- the row-major order, but the last axis runs from its end to its start
 abbrev pub indices_back : List ℕ → List (List ℕ)
 indices_back ns = map (from_the_end ns) (indices ns)
 

@@ -1,15 +1,12 @@
-ghost use Rattle.std.specs.Prelude.{◌≡◌, ◌+◌, ◌-◌, ◌<◌, ◌≤◌, ℕ, Bool, List, [], ◌∷◌, map, length, drop, slice_index_or};
-ghost use Rattle.apl_base.specs.Array.{IsIndex, size_of, index_at};
-ghost use Rattle.apl_base.specs.Selection.{upward};
-ghost use Rattle.iter_stack.specs.Indices.{indices, indices_back, from_the_end, walk, item};
+ghost use Rattle.std.specs.Prelude.{◌≡◌, ◌+◌, ◌-◌, ◌<◌, ◌≤◌, ℕ, Bool, List, [], ◌∷◌, length, drop, slice_index_or};
+ghost use Rattle.apl_base.specs.Array.{IsIndex, size_of};
+ghost use Rattle.iter_stack.specs.Indices.{indices_back, from_the_end, walk, item};
 
 /// Laws of the two walks: the item number p is the index at the place p, counted from the end of the last axis
 /// where the walk is backwards; there are as many items as elements.
-pub fn index_laws()
-    ensures places { (ns : List ℕ) → indices ns ≡ map (index_at ns) (upward 0 (size_of ns)) }
-    ensures item { (ns : List ℕ) (p : ℕ) (d : List ℕ) → p < size_of ns → slice_index_or (indices ns) p d ≡ index_at ns p }
-    ensures item_back { (ns : List ℕ) (p : ℕ) (d : List ℕ) → p < size_of ns
-        → slice_index_or (indices_back ns) p d ≡ from_the_end ns (index_at ns p) }
+pub fn item_laws()
+    ensures item { (back : Bool) (ns : List ℕ) (p : ℕ) (d : List ℕ)
+        → p < size_of ns → slice_index_or (walk back ns) p d ≡ item back ns p }
     ensures count { (back : Bool) (ns : List ℕ) → length (walk back ns) ≡ size_of ns }
     ensures lawful { (ns is : List ℕ) → IsIndex ns is → IsIndex ns (from_the_end ns is) }
 {}
@@ -17,20 +14,21 @@ pub fn index_laws()
 /// Laws for a loop over a walk: what is left after k items is the walk without its first k items; the next item
 /// is the item number k, an index of the shape; and where none is left, k is the size.
 pub fn walk_laws()
-    ensures next { (back : Bool) (ns : List ℕ) (k : ℕ) (i : List ℕ) (left : List (List ℕ)) → drop k (walk back ns) ≡ i ∷ left
-        → (k < size_of ns) × (i ≡ item back ns k) × IsIndex ns i × (left ≡ drop (k + 1) (walk back ns)) }
-    ensures end { (back : Bool) (ns : List ℕ) (k : ℕ) → drop k (walk back ns) ≡ [] → size_of ns ≤ k }
-    ensures left { (back : Bool) (ns : List ℕ) (k : ℕ) → length (drop k (walk back ns)) ≡ size_of ns - k }
+    ensures next { (back : Bool) (ns : List ℕ) (k : ℕ) (i : List ℕ) (left : List (List ℕ))
+        → drop k (walk back ns) ≡ i ∷ left
+        → (k < size_of ns) × (i ≡ item back ns k) × IsIndex ns i
+        × (left ≡ drop (k + 1) (walk back ns)) }
+    ensures end { (back : Bool) (ns : List ℕ) (k : ℕ) → drop k (walk back ns) ≡ []
+        → size_of ns ≤ k }
+    ensures left { (back : Bool) (ns : List ℕ) (k : ℕ)
+        → length (drop k (walk back ns)) ≡ size_of ns - k }
 {}
 
-/// Worked examples of the two walks.
-pub fn index_examples()
-    ensures scalar { indices [] ≡ [] ∷ [] }
-    ensures vector { indices (3 ∷ []) ≡ (0 ∷ []) ∷ (1 ∷ []) ∷ (2 ∷ []) ∷ [] }
-    ensures matrix { indices (2 ∷ 2 ∷ []) ≡ (0 ∷ 0 ∷ []) ∷ (0 ∷ 1 ∷ []) ∷ (1 ∷ 0 ∷ []) ∷ (1 ∷ 1 ∷ []) ∷ [] }
-    ensures none { (indices (2 ∷ 0 ∷ []) ≡ []) × (indices (0 ∷ 2 ∷ []) ≡ []) }
+/// Worked examples of the walk backwards.
+pub fn walk_examples()
     ensures scalar_back { indices_back [] ≡ [] ∷ [] }
     ensures vector_back { indices_back (3 ∷ []) ≡ (2 ∷ []) ∷ (1 ∷ []) ∷ (0 ∷ []) ∷ [] }
-    ensures matrix_back { indices_back (2 ∷ 2 ∷ []) ≡ (0 ∷ 1 ∷ []) ∷ (0 ∷ 0 ∷ []) ∷ (1 ∷ 1 ∷ []) ∷ (1 ∷ 0 ∷ []) ∷ [] }
+    ensures matrix_back { indices_back (2 ∷ 2 ∷ [])
+        ≡ (0 ∷ 1 ∷ []) ∷ (0 ∷ 0 ∷ []) ∷ (1 ∷ 1 ∷ []) ∷ (1 ∷ 0 ∷ []) ∷ [] }
     ensures none_back { indices_back (0 ∷ 2 ∷ []) ≡ [] }
 {}

@@ -4,7 +4,7 @@
 mod laws;
 mod odometer;
 
-pub use laws::{index_examples, index_laws, walk_laws};
+pub use laws::{item_laws, walk_examples, walk_laws};
 pub use odometer::Odometer;
 
 #[cfg(test)]

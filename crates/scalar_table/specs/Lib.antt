@@ -1,3 +1,4 @@
 pub mod LawfulElements
 pub mod LawfulNumbers
 pub mod Row
+pub mod Columns

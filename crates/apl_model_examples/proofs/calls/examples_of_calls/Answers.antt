@@ -53,6 +53,3 @@ returns-clause-a_call_too_deep c = refl
 pub returns-clause-a_call_without_a_result : goal.returns-clause-a_call_without_a_result
 unfolding digits
 returns-clause-a_call_without_a_result c = refl
-
-pub returns-clause-fifteen_statements_are_begun : goal.returns-clause-fifteen_statements_are_begun
-returns-clause-fifteen_statements_are_begun c = refl

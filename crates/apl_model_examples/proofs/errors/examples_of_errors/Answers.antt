@@ -41,3 +41,7 @@ returns-clause-the_right_one_of_two_kinds_of_errors c = refl
 pub returns-clause-the_right_one_of_two_failing_quotients : goal.returns-clause-the_right_one_of_two_failing_quotients
 unfolding digits
 returns-clause-the_right_one_of_two_failing_quotients c = refl
+
+pub returns-clause-an_axis_far_beyond_the_rank : goal.returns-clause-an_axis_far_beyond_the_rank
+unfolding digits
+returns-clause-an_axis_far_beyond_the_rank c = refl

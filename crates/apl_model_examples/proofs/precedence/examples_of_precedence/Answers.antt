@@ -26,9 +26,9 @@ pub returns-clause-what_an_interval_and_a_shape_refuse : goal.returns-clause-wha
 unfolding digits
 returns-clause-what_an_interval_and_a_shape_refuse c = refl
 
-pub returns-clause-what_a_rotation_and_a_transpose_refuse : goal.returns-clause-what_a_rotation_and_a_transpose_refuse
+pub returns-clause-what_a_selection_and_a_grade_refuse : goal.returns-clause-what_a_selection_and_a_grade_refuse
 unfolding digits
-returns-clause-what_a_rotation_and_a_transpose_refuse c = refl
+returns-clause-what_a_selection_and_a_grade_refuse c = refl
 
 pub returns-clause-what_bits_and_digits_refuse : goal.returns-clause-what_bits_and_digits_refuse
 unfolding digits

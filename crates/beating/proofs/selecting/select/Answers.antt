@@ -3,7 +3,7 @@ use Rattle.drag_along.specs.declared.nodes.Node.{Node}
 use Rattle.drag_along.specs.Nodes.{leaf_shape, AllLeaves, pending_after}
 use Rattle.drag_along.specs.Segments.{SegmentView, IsSegment}
 use Rattle.beating.specs.Selecting.{SelectsNodes}
-use Rattle.beating.proofs.NodeLemmas.{selected_names, selected_pending}
+use Rattle.beating.proofs.NodeLemmas.{selected_names, selected_functions, selected_stored, selected_pending}
 use Rattle.beating.proofs.MeaningLemmas.{IsSelection, selection_is, is_segment, are_lawful, all_fit, selected_over, selected_is_lawful}
 use Rattle.beating.proofs.selecting.select.Goals as goal
 use Rattle.beating.proofs.selecting.select.Goals.{After-shape_of}
@@ -29,6 +29,7 @@ selects c =
     (subst IsSegment c.s.view_is c.s.invariant)
     (ap (λ (v : SegmentView). v.kind) c.s.view_is)
     (ap (λ (v : SegmentView). v.range) c.s.view_is)
+    (ap (λ (v : SegmentView). v.may_fail) c.s.view_is)
     (subst (λ (v : SegmentView). SelectsNodes c.args.by.now v.nodes c.select_leaves.new.nodes.items) c.s.view_is c.select_leaves.ensures.nodes)
     c.select_leaves.ensures.lawful
     (λ ns h. c.shape_of.ensures ns (subst (AllLeaves (λ leaf. leaf_shape leaf ≡ ns)) (sym c.deref.ensures.value) h))
@@ -53,3 +54,11 @@ returns-clause-meaning c = λ store h.
 pub returns-clause-leaves : goal.returns-clause-leaves
 returns-clause-leaves c = λ key.
     selected_names c.args.by.now c.args.s.now.nodes c.select_leaves.new.nodes.items (selects (goal.at.returns-clause-leaves c).After-shape_of).nodes key
+
+pub returns-clause-functions : goal.returns-clause-functions
+returns-clause-functions c =
+    selected_functions c.args.by.now c.args.s.now.nodes c.select_leaves.new.nodes.items (selects (goal.at.returns-clause-functions c).After-shape_of).nodes
+
+pub returns-clause-stored : goal.returns-clause-stored
+returns-clause-stored c =
+    selected_stored c.args.by.now c.args.s.now.nodes c.select_leaves.new.nodes.items (selects (goal.at.returns-clause-stored c).After-shape_of).nodes

@@ -8,7 +8,7 @@ use Rattle.drag_along.specs.Views.{IsWholeView}
 use Rattle.apl_base.specs.declared.cells.Kind.TheVariants.{Num}
 use Rattle.apl_base.specs.Array.{size_of}
 use Rattle.e_machine.specs.Runs.{HasElements}
-use Rattle.e_machine.proofs.ForcedLemmas.{AreMachineCounts, store_computed, fault_function, answer_fault, answer_value, answer_made}
+use Rattle.e_machine.proofs.ForcedLemmas.{AreMachineCounts, store_computed, fault_function, answer_fault, answer_made}
 use Rattle.e_machine.proofs.forcing.computed.Goals as goal
 
 -- the node that was read is the segment's node of that number
@@ -54,17 +54,10 @@ returns-then-first-len-clause-store c = store_computed _ _ _ _ c.compute.ensures
 whole : (key : ℕ) (inside g : SegmentView) (leaf : Leaf) → inside ≡ g → IsWholeView key inside.shape Num leaf → IsWholeView key g.shape Num leaf
 whole key inside g leaf view_is h = subst (λ (y : SegmentView). IsWholeView key y.shape Num leaf) view_is h
 
-pub returns-clause-value : goal.returns-clause-value
-returns-clause-value c =
-    let many = c.len.ensures ∙ c.s.inside.nodes.ok.0 in
-    let has : HasElements c.args.store.now c.compute.new.store c.args.s.now c.compute.new.cells.items =
-    c.in_ok-first.ensures.cells (past _ _ _ _ c.s.view_is many c.if-first-len.false) in
-    answer_value _ _ _ c.args.s.now _ _ _ (subst IsSegment c.s.view_is c.s.invariant) has (whole _ _ _ _ c.s.view_is c.whole_view.ensures) c.in_ok-owner.ensures.made
-
-pub returns-clause-made : goal.returns-clause-made
-returns-clause-made c =
+pub returns-clause-forced : goal.returns-clause-forced
+returns-clause-forced c =
     let many = c.len.ensures ∙ c.s.inside.nodes.ok.0 in
     let small : AreMachineCounts c.counts-counts.result = record { applied = search rules; fetched = search rules } in
     let has : HasElements c.args.store.now c.compute.new.store c.args.s.now c.compute.new.cells.items =
     c.in_ok-first.ensures.cells (past _ _ _ _ c.s.view_is many c.if-first-len.false) in
-    answer_made _ _ _ c.args.s.now _ _ _ (subst IsSegment c.s.view_is c.s.invariant) (subst AreMachineCounts c.counts-counts.ensures.value small) has (whole _ _ _ _ c.s.view_is c.whole_view.ensures) c.in_ok-owner.ensures.made
+    answer_made _ _ _ c.args.s.now _ _ _ (subst IsSegment c.s.view_is c.s.invariant) c.requires.many (subst AreMachineCounts c.counts-counts.ensures.value small) has (whole _ _ _ _ c.s.view_is c.whole_view.ensures) c.in_ok-owner.ensures.made

@@ -11,4 +11,4 @@ pub force-requires-clause-holders : goal.force-requires-clause-holders
 force-requires-clause-holders c = ForSome-functions _ c.in_ok-s.s.nodes c.in_ok-s.ensures.some
 
 pub listed-requires : goal.listed-requires
-listed-requires c = c.in_ok-made.ensures.value.stands.lawful
+listed-requires c = c.in_ok-made.ensures.forced.stands.lawful

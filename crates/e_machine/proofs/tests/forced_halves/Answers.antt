@@ -15,4 +15,4 @@ pub force-made-requires-clause-holders : goal.force-made-requires-clause-holders
 force-made-requires-clause-holders c = ForSome-functions _ c.in_ok-s.s.nodes (omega (arith, c.in_ok-s.ensures.functions))
 
 pub listed-requires : goal.listed-requires
-listed-requires c = c.in-Ok.ensures.value.stands.lawful
+listed-requires c = c.in-Ok.ensures.forced.stands.lawful

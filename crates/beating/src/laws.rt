@@ -1,0 +1,6 @@
+ghost use Rattle.beating.specs.Folds.{LawfulNumbersInRange};
+
+/// The condition of `fold2` is met by segments that are lawful over a store.
+pub fn fold_laws()
+    ensures { LawfulNumbersInRange }
+{}
