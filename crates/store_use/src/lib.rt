@@ -8,8 +8,11 @@ ghost use Rattle.array_store.specs.Stores.{owner_at, counted};
 use apl_base::{Cell, Kind, NoMemory};
 use array_store::Store;
 
+mod came;
 #[cfg(test)]
 mod tests;
+
+pub use came::{held_and_let_go, live_is_what_came, taken_in_and_read, written_beside};
 
 /// Takes cells in, holds them twice and once again, writes one through the one holder, reads it back and lets
 /// go. The store ends as it began, but for what it counted.

@@ -4,10 +4,10 @@ ghost use Rattle.apl_base.specs.Number.{IsNumber};
 ghost use Rattle.array_desc.specs.Desc.{number as number_of};
 ghost use Rattle.beating.specs.Folds.{NumbersInRange};
 
-use crate::{as_progression, fold1, fold2};
-use apl_base::{Cell, Dya, Kind, M, Mon, NoMemory};
+use apl_base::{Cell, Dya, ErrorKind, Kind, M, Mon, NoMemory};
 use array_desc::Desc;
 use array_store::{BeginFault, Store};
+use beating::{Item, Run, as_progression, fold1, fold2, item_of};
 use drag_along::{Leaf, Segment};
 use std::alloc::Global;
 use std::test::Fail;
@@ -166,5 +166,42 @@ fn folds_of_two(rt: HostRuntime) -> Result<(), Fail> {
         };
         assert_eq!(rt; line_of(leaf), want, "{f:?} {number}");
     }
+    Ok(())
+}
+
+// ---- positions
+
+// On an axis of six elements.
+#[test]
+fn items_of_positions(rt: HostRuntime) -> Result<(), Fail> {
+    let odd = Run {
+        from: 1,
+        step: 2,
+        n: 3,
+    };
+    let odd_places = Item::Run {
+        from: 0,
+        step: 2,
+        n: 3,
+    };
+    assert_eq!(rt; item_of(odd, false, 1, 6), Ok(odd_places));
+    let back = Run {
+        from: 6,
+        step: -1,
+        n: 2,
+    };
+    let back_places = Item::Run {
+        from: 5,
+        step: -1,
+        n: 2,
+    };
+    assert_eq!(rt; item_of(back, false, 1, 6), Ok(back_places));
+    assert_eq!(rt; item_of(back, false, 0, 6), Err(ErrorKind::Index));
+    let six = Run {
+        from: 6,
+        step: 0,
+        n: 1,
+    };
+    assert_eq!(rt; item_of(six, true, 1, 6), Ok(Item::At { i: 5 }));
     Ok(())
 }

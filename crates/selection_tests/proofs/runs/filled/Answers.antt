@@ -4,7 +4,7 @@ use Rattle.std.proofs.lemmas.List.{length_push}
 use Rattle.std.proofs.lemmas.List.Elements.{All-push}
 use Rattle.apl_base.specs.Number.{IsNumber}
 use Rattle.beating.proofs.RunLemmas.{number_is}
-use Rattle.beating.proofs.run_tests.filled.Goals as goal
+use Rattle.selection_tests.proofs.runs.filled.Goals as goal
 
 pub loop-number-preserved : goal.loop-number-preserved
 loop-number-preserved c =

@@ -2,9 +2,9 @@ ghost use Rattle.std.specs.Prelude.{◌≡◌, [], IfOk};
 ghost use Rattle.apl_base.specs.Number.{IsNumber};
 ghost use Rattle.drag_along.specs.Nodes.{functions_in};
 
-use crate::{Leaf, Segment, join1, join2};
 use apl_base::{Cell, Dya, Interval, Kind, M, Mon, NoMemory, Place};
 use array_desc::Desc;
+use drag_along::{Leaf, Segment, join1, join2};
 use std::alloc::Global;
 use std::test::Fail;
 
