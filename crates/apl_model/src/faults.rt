@@ -12,7 +12,7 @@ pub enum ReadFault {
 
 impl From<NoMemory> for ReadFault {
     ghost use Rattle.std.specs.Prelude.{◌≡◌};
-    ghost use Rattle.apl_read.specs.declared.faults.ReadFault.TheVariants.{NoMemory};
+    ghost use Rattle.apl_model.specs.declared.faults.ReadFault.TheVariants.{NoMemory};
 
     ghost from_gives = { λ _ fault. fault ≡ NoMemory };
 

@@ -1,7 +1,7 @@
-use crate::faults::ReadFault;
-use crate::script_tokens::tokens;
+//! The tokens of scripts, or their first refusals.
 use apl_base::Cell;
-use apl_model::{Lines, Token, Word};
+use apl_model::{Lines, ReadFault, Token, Word};
+use apl_read::tokens;
 use std::alloc::Global;
 use std::fmt::Write;
 use std::test::Fail;

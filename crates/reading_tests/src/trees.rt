@@ -1,8 +1,8 @@
-use crate::lookups::Lookup;
-use crate::statements::{Reading, read, statement, statement_among};
-use apl_base::{Cell, Name, Place};
-use apl_model::{Classes, Expr, Heading, Statement, Token, Word};
-use apl_read::{ReadFault, tokens};
+//! The trees of lines, or the places where they stop.
+use apl_base::{Name, Place};
+use apl_model::{Classes, Expr, Heading, ReadFault, Statement};
+use apl_read::tokens;
+use apl_tree::{Lookup, statement, statement_among};
 use sqlite_items::Items;
 use std::alloc::Global;
 use std::fmt::Write;
@@ -13,7 +13,7 @@ use std::test::Fail;
 /// an argument or a position that is left out, and `[2]` a subscript of two positions.
 #[rattlefmt::skip]
 const LINES: [(&str, &str); 112] = [
-    ("", ""),
+    (" ", ""),
     ("1", "1@1"),
     ("1 2", "1_2@1"),
     ("'a'", "97@1"),
@@ -126,86 +126,6 @@ const LINES: [(&str, &str); 112] = [
     ("A[1]B", "!5"),
     ("A←B+", "!5"),
 ];
-
-/// A number as the last token, or at the end of it where that is one of numbers.
-fn push_number(
-    alloc: Global,
-    tokens: &mut Items<Token>,
-    column: u32,
-    number: Cell,
-) -> Result<(), Fail> {
-    let past = column.saturating_add(1);
-    let mut from = column;
-    let mut cells = Items::new(alloc);
-    match tokens.pop() {
-        Some(
-            Token {
-                from: first,
-                past: _,
-                word: Word::Numbers { cells: numbers },
-            },
-        ) => {
-            from = first;
-            cells = numbers;
-        }
-        Some(last) => tokens.push(last)?,
-        None => {}
-    }
-    cells.push(number)?;
-    tokens.push(Token {
-        from,
-        past,
-        word: Word::Numbers { cells },
-    })?;
-    Ok(())
-}
-
-/// The tokens of a text whose names and numbers have one character each.
-fn tokens_of(alloc: Global, text: &str) -> Result<Items<Token>, Fail> {
-    let mut tokens = Items::new(alloc);
-    let mut quoted: Option<(u32, Items<Cell>)> = None;
-    let mut column: u32 = 0;
-    for c in text.chars() {
-        column = column.saturating_add(1);
-        let past = column.saturating_add(1);
-        match quoted {
-            Some((from, cells)) if c == '\'' => {
-                quoted = None;
-                tokens.push(Token {
-                    from,
-                    past,
-                    word: Word::Chars { cells },
-                })?;
-            }
-            Some((from, mut cells)) => {
-                cells.push(Cell::from(u32::from(c)))?;
-                quoted = Some((from, cells));
-            }
-            None => {
-                quoted = None;
-                if c == '\'' {
-                    quoted = Some((column, Items::new(alloc)));
-                } else if c.is_ascii_digit() {
-                    push_number(alloc, &mut tokens, column, Cell::from(u32::from(c)) - 48)?;
-                } else if c.is_ascii_alphabetic() {
-                    let name = Name::of(alloc, format!(in alloc; "{c}")?.as_str())?;
-                    tokens.push(Token {
-                        from: column,
-                        past,
-                        word: Word::Name { name },
-                    })?;
-                } else if c != ' ' {
-                    tokens.push(Token {
-                        from: column,
-                        past,
-                        word: Word::Glyph { glyph: c },
-                    })?;
-                }
-            }
-        }
-    }
-    Ok(tokens)
-}
 
 /// A node, with what stands below it put on top of `work`, the first one last.
 fn show_node<'a>(
@@ -382,34 +302,21 @@ fn show_statement(alloc: Global, statement: &Statement, out: &mut String) -> Res
     }
 }
 
-/// What these tokens are.
-fn show_reading(
-    alloc: Global,
-    classes: &Classes,
-    tokens: &[Token],
-    out: &mut String,
-) -> Result<(), Fail> {
-    match read(alloc, 7, tokens, classes)? {
-        Reading::Done { statement } => show_statement(alloc, &statement, out)?,
-        Reading::Stopped { column } => write!(out, "!{column}")?,
-    }
-    Ok(())
-}
-
 /// What a line of such a text is.
-fn answer(alloc: Global, classes: &Classes, text: &str) -> Result<String, Fail> {
-    let tokens = tokens_of(alloc, text)?;
+fn answer(alloc: Global, text: &str) -> Result<String, Fail> {
     let mut out = String::new(alloc);
-    show_reading(alloc, classes, tokens.as_slice(), &mut out)?;
+    match first_statement(alloc, text)?.ok_or("a line")? {
+        Ok(statement) => show_statement(alloc, &statement, &mut out)?,
+        Err(ReadFault::Refused { refusal }) => write!(out, "!{}", refusal.column)?,
+        Err(ReadFault::NoMemory) => Err("memory")?,
+    }
     Ok(out)
 }
 
 #[test]
 fn lines_have_their_trees(rt: HostRuntime) -> Result<(), Fail> {
-    let alloc = rt.alloc();
-    let classes = classes(alloc)?;
     for (text, expected) in LINES.iter() {
-        let answer = answer(alloc, &classes, text)?;
+        let answer = answer(rt.alloc(), text)?;
         assert_eq!(rt; answer.as_str(), *expected, "{text}");
     }
     Ok(())
@@ -428,7 +335,6 @@ fn repeated(alloc: Global, before: &str, times: usize, after: &str) -> Result<St
 #[test]
 fn long_lines_are_read(rt: HostRuntime) -> Result<(), Fail> {
     let alloc = rt.alloc();
-    let classes = classes(alloc)?;
     let mut deep = repeated(alloc, "A[", 64, "1")?;
     deep.push_str(repeated(alloc, "]", 64, "")?.as_str())?;
     let minus = repeated(alloc, "-", 999, "1")?;
@@ -436,7 +342,7 @@ fn long_lines_are_read(rt: HostRuntime) -> Result<(), Fail> {
     let mut wide = repeated(alloc, ";", 899, "]")?;
     wide = repeated(alloc, "A[", 1, wide.as_str())?;
     for text in [deep.as_str(), minus.as_str(), plus.as_str(), wide.as_str()].iter() {
-        let answer = answer(alloc, &classes, text)?;
+        let answer = answer(alloc, text)?;
         assert!(rt; !answer.as_str().starts_with("!"), "{text}");
     }
     Ok(())

@@ -1,9 +1,15 @@
--- How the reader's answers stand to the definitions.
-use Rattle.std.specs.Prelude.{◌≡◌, ℕ, Option, Some}
+-- How the answers of the readers stand to refusals.
+use Rattle.std.specs.Prelude.{◌≡◌, ℕ, Option, Some, Result, Ok, Err}
 use Rattle.apl_base.specs.declared.faults.Refusal.{Refusal}
 use Rattle.apl_model.specs.Refusal.{IsFirst}
-use Rattle.apl_read.specs.declared.faults.ReadFault.{ReadFault}
-use Rattle.apl_read.specs.declared.faults.ReadFault.TheVariants.{Refused, NoMemory}
+use Rattle.apl_model.specs.declared.faults.ReadFault.{ReadFault}
+use Rattle.apl_model.specs.declared.faults.ReadFault.TheVariants.{Refused, NoMemory}
+
+-- a fact of the refusal, where the answer is one
+abbrev pub IfRefused : {A : Type 0} → Result A ReadFault → (Refusal → Type 0) → Type 0
+IfRefused (Ok a) P = Unit {0}
+IfRefused (Err (Refused refusal)) P = P refusal
+IfRefused (Err NoMemory) P = Unit {0}
 
 -- where the script is refused, it is by this refusal
 abbrev pub IsRefusedAs : ReadFault → Option Refusal → Type 0

@@ -1,6 +1,6 @@
-use crate::script_of_bytes;
-use apl_model::{Definition, Script, ScriptItem};
-use apl_read::ReadFault;
+//! The items of scripts, or their first refusals.
+use apl_defn::script_of_bytes;
+use apl_model::{Definition, ReadFault, Script, ScriptItem};
 use std::alloc::Global;
 use std::fmt::Write;
 use std::test::Fail;
@@ -52,7 +52,7 @@ fn answer(alloc: Global, script: &[u8]) -> Result<String, Fail> {
 
 /// Scripts with their first refusals.
 #[rattlefmt::skip]
-const SCRIPTS: [(&str, &str); 124] = [
+const SCRIPTS: [(&str, &str); 131] = [
     // Accepted.
     ("", "accepted"),
     ("\n \n⍝ ∇\n", "accepted"),
@@ -176,10 +176,17 @@ const SCRIPTS: [(&str, &str); 124] = [
     ("∇G\nF:]\n∇\n∇F\n∇", "2 1 NameClass"),
     ("∇G\n]\nF:1\n∇\n∇F\n∇", "2 1 Grammar"),
     ("∇G F\n]\n∇\n∇F\n∇", "1 4 NameClass"),
-    // A label may be any name, so the line goes on to its second token.
-    ("∇F\nD 1\n∇\n∇Z←X D Y\n∇", "2 3 Grammar"),
-    ("∇F\nD\n∇\n∇Z←X D Y\n∇", "2 2 Grammar"),
+    // A label heads no definition, so a line that begins with a function's name is none but a statement.
+    ("∇F\nD 1\n∇\n∇Z←X D Y\n∇", "2 1 Grammar"),
+    ("∇F\nD\n∇\n∇Z←X D Y\n∇", "2 1 Grammar"),
+    ("∇F\nD D ←\n∇\n∇Z←X D Y\n∇", "2 1 Grammar"),
     ("∇F\n1 D\n∇\n∇Z←X D Y\n∇", "2 4 Grammar"),
+    ("∇F\nD:1\n∇\n∇Z←X D Y\n∇", "2 1 NameClass"),
+    ("∇F\nM:1\n∇\n∇Z←M Y\n∇", "2 1 NameClass"),
+    ("∇F\nM\n∇\n∇Z←M Y\n∇", "2 2 Grammar"),
+    ("∇F\nL:D 1\n∇\n∇Z←X D Y\n∇", "2 3 Grammar"),
+    ("∇F\nL:D:1\n∇", "2 4 Grammar"),
+    ("∇F\n1:L\n∇", "2 2 Grammar"),
     // What a statement is stands on the headings of the whole script.
     ("∇F\nX F Y\n∇", "2 3 Grammar"),
     ("∇Z←X F Y\nX F Y\n∇", "accepted"),
