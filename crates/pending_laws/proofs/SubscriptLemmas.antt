@@ -1,8 +1,11 @@
 -- Positions of a subscript, one after the other.
-use Rattle.std.proofs.Common.{◌≡◌, ◌==◌, ℕ, suc, ◌+◌, ◌*◌, ◌<◌, Bool, true, false, not, ◌&&◌, ◌||◌, ℤ, pos, ◌+ℤ◌, ◌-ℤ◌, unsigned_abs, List, [], ◌∷◌, ◌++◌, length, map, take, drop, Option, Some, None, Ok, refl, sym, ap, subst, ◌∙◌, arith}
+use Rattle.std.proofs.Common.{◌≡◌, ◌==◌, ℕ, zero, suc, ◌+◌, ◌*◌, ◌<◌, Bool, true, false, not, ◌&&◌, ◌||◌, ℤ, pos, ◌+ℤ◌, ◌-ℤ◌, unsigned_abs, List, [], ◌∷◌, ◌++◌, length, map, take, drop, Option, Some, None, Ok, refl, sym, ap, subst, ◌∙◌, arith}
 use Rattle.std.specs.Prelude.{slice_index_or}
 use Rattle.std.specs.List.{AllByRecursion, list_any}
 use Rattle.std.proofs.lemmas.List.{take-append-drop}
+use Rattle.std.proofs.lemmas.Int.{ints}
+use Rattle.apl_base.specs.declared.cells.Kind.{Kind}
+use Rattle.apl_base.specs.declared.cells.Kind.TheVariants.{Num}
 use Rattle.apl_base.specs.declared.faults.ErrorKind.TheVariants as error
 use Rattle.apl_base.specs.Array.{Array, IsShape, IsIndex, size_of, place_at, cell_at}
 use Rattle.apl_base.specs.Selection.{Position, whole, one, run, subscript_shape, subscript_index}
@@ -15,10 +18,47 @@ use Rattle.beating.specs.Runs.{run_value}
 use Rattle.beating.specs.Positions.{NamesPlace, OnAxis, IsItemOf}
 use Rattle.beating.specs.Positions as positions
 use Rattle.beating.specs.Selecting.{position_of}
-use Rattle.apl_model.specs.Whole.{Answer, rank}
+use Rattle.apl_model.specs.Whole.{Answer, rank, is_char, is_empty, is_text, first}
 use Rattle.apl_model.specs.Subscript.{is_text_position, is_place, in_axis, in_axes, axes_of, positions_shape, place_of, positions_index}
-use Rattle.pending_laws.specs.Subscripts.{AreInProgression, IsItemAt, AreItems, SubscriptIsSelected}
+use Rattle.pending_laws.specs.Subscripts.{AreInProgression, lone_number, ScalarsAreInProgression, RunsAreInProgression, IsItemAt, AreItems, SubscriptIsSelected}
 use Rattle.pending_laws.proofs.AnswerLemmas.{passes_if, passes_limit, le-test, lt-test, gathered-same}
+
+-- ---- what is in progression
+
+no_text : (p : Array) → p.kind ≡ Num → is_text p ≡ false
+no_text p e = ap (λ (k : Kind). is_char k && not (is_empty p)) e
+
+no_axis : (ns : List ℕ) → length ns ≡ 0 → ns ≡ []
+no_axis [] h = refl
+no_axis (n ∷ ns) h = absurd (omega (arith, h))
+
+one_axis : (ns : List ℕ) (m : ℕ) → length ns ≡ 1 → m ≡ size_of ns → ns ≡ m ∷ []
+one_axis [] m h e = absurd (omega (arith, h))
+one_axis (n ∷ []) m h e = let same : n ≡ m = omega (arith, e) in ap (λ (k : ℕ). k ∷ []) same
+one_axis (n ∷ k ∷ ns) m h e = absurd (omega (arith, h))
+
+lone-each : (cells : List ℤ) (z : ℤ) → length cells ≡ 1 → slice_index_or cells 0 (pos 0) ≡ z → (j : ℕ) → j < length cells → slice_index_or cells j (pos 0) ≡ run_value (lone_number z) j
+lone-each cells z h e zero below = e ∙ omega (arith, ints)
+lone-each cells z h e (suc j) below = absurd (omega (arith, below, h))
+
+pub scalars_are_in_progression : ScalarsAreInProgression
+scalars_are_in_progression p kind h r =
+    let none : p.shape ≡ [] = no_axis p.shape r in
+    let count : length p.cells ≡ 1 = h ∙ ap size_of none in
+    record {
+      numbers = no_text p kind;
+      run = record { count = sym count; each = lone-each p.cells (first p) count refl; step = λ _. refl; from = λ e. absurd (omega (arith, e, count)) };
+      shape = none;
+      complete = h;
+    }
+
+pub runs_are_in_progression : RunsAreInProgression
+runs_are_in_progression p r kind h axes are = record {
+  numbers = no_text p kind;
+  run = are;
+  shape = one_axis p.shape r.n axes (are.count ∙ h);
+  complete = h;
+}
 
 -- ---- one position
 

@@ -1,5 +1,6 @@
 -- Subscripts whose positions are left out, scalars or progressions are selections of an array.
-use Rattle.std.specs.Prelude.{◌≡◌, ℕ, ℤ, Bool, false, List, [], ◌∷◌, Option, Some, None, Ok}
+use Rattle.std.specs.Prelude.{◌≡◌, ℕ, ℤ, pos, Bool, true, false, List, [], ◌∷◌, Option, Some, None, Ok}
+use Rattle.apl_base.specs.declared.cells.Kind.TheVariants.{Num}
 use Rattle.apl_base.specs.Array.{Array}
 use Rattle.beating.specs.declared.runs.Run.{Run}
 use Rattle.beating.specs.declared.selections.Item.{Item}
@@ -9,7 +10,7 @@ use Rattle.beating.specs.declared.selections.Selection.TheVariants as select
 use Rattle.beating.specs.Runs.{IsRunOf}
 use Rattle.beating.specs.Positions.{OnAxis, positions_shape, IsItemOf}
 use Rattle.beating.specs.Selecting.{Fits, selected}
-use Rattle.apl_model.specs.Whole.{is_text}
+use Rattle.apl_model.specs.Whole.{rank, is_text, first}
 use Rattle.apl_model.specs.Subscript.{subscript}
 use Rattle.pending_laws.specs.Joins.{IsComplete}
 
@@ -19,6 +20,21 @@ pub record AreInProgression (p : Array) (r : Run) (is_scalar : Bool) : Type 0 wh
   pub run : IsRunOf p.cells r
   pub shape : p.shape ≡ positions_shape is_scalar r.n
   pub complete : IsComplete p
+
+-- the one number of a scalar, as a progression
+abbrev pub lone_number : ℤ → Run
+lone_number z = record { from = z; step = pos 0; n = 1 }
+
+-- a scalar that is a number is in progression
+abbrev pub ScalarsAreInProgression : Type 0
+ScalarsAreInProgression =
+    (p : Array) → p.kind ≡ Num → IsComplete p → rank p ≡ 0 → AreInProgression p (lone_number (first p)) true
+
+-- and so are numbers of one axis that are a run
+abbrev pub RunsAreInProgression : Type 0
+RunsAreInProgression =
+    (p : Array) (r : Run) → p.kind ≡ Num → IsComplete p → rank p ≡ 1 → IsRunOf p.cells r
+    → AreInProgression p r false
 
 -- the item is what such a position keeps of an axis of n elements
 pub record KeepsPositions (o : ℤ) (n : ℕ) (p : Array) (kept : Item) : Type 0 where

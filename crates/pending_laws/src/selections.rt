@@ -1,6 +1,6 @@
 //! Selections of the language are selections of an array.
 ghost use Rattle.pending_laws.specs.Selections.{ReversedIsSelected, ReversedScalarStays, FlippedIsSelected, TransposedIsSelected, TakenScalarExtends, TakenFromItself, TakenIsSelected, DroppedIsSelected};
-ghost use Rattle.pending_laws.specs.Subscripts.{SubscriptIsSelected};
+ghost use Rattle.pending_laws.specs.Subscripts.{ScalarsAreInProgression, RunsAreInProgression, SubscriptIsSelected};
 
 /// `⌽` and `⊖` of one argument turn round the axis that is named, and leave a scalar as it is.
 pub fn reversals_select()
@@ -25,5 +25,7 @@ pub fn takes_select()
 
 /// A subscript keeps of each axis the places that its position names, where that is left out or is numbers in progression.
 pub fn subscripts_select()
-    ensures { SubscriptIsSelected }
+    ensures scalar { ScalarsAreInProgression }
+    ensures vector { RunsAreInProgression }
+    ensures subscript { SubscriptIsSelected }
 {}
