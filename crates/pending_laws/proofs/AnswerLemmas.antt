@@ -1,6 +1,6 @@
 -- Answers whose tests pass, and arrays that are read alike.
-use Rattle.std.proofs.Common.{◌≡◌, ℕ, ◌≤◌, Bool, true, false, not, ◌||◌, ℤ, ◌≤ℤ◌, ◌<ℤ◌, int_le, int_lt, List, refl, ap, ◌∙◌, arith}
-use Rattle.std.proofs.lemmas.Bool.{lt-leb}
+use Rattle.std.proofs.Common.{◌≡◌, ℕ, ◌<◌, ◌≤◌, Bool, true, false, not, ◌||◌, ℤ, ◌≤ℤ◌, ◌<ℤ◌, int_le, int_lt, List, Ok, refl, ap, ◌∙◌, arith}
+use Rattle.std.proofs.lemmas.Bool.{lt-leb, leb-false}
 use Rattle.std.proofs.lemmas.Int.{ints}
 use Rattle.apl_base.specs.declared.faults.ErrorKind.{ErrorKind}
 use Rattle.apl_base.specs.declared.faults.ErrorKind.TheVariants as error
@@ -21,6 +21,18 @@ passes_or e t make h = ap (λ (b : Bool). error_or e b make) h
 
 pub passes_limit : (ns : List ℕ) (make : Unit {0} → Answer) → IsShape ns → within_limit ns make ≡ make tt
 passes_limit ns make h = passes_or error.Limit (not (is_shape ns)) make (ap not ((shapes_are_tested ns).1 h))
+
+-- and back: an answer has passed
+pub passed_if : (e : ErrorKind) (t : Bool) (next : Answer) (c : Array) → error_if e t next ≡ Ok c → (t ≡ false) × (next ≡ Ok c)
+passed_if e true next c h = absurd cc
+passed_if e false next c h = (refl, h)
+
+pub passed_or : (e : ErrorKind) (t : Bool) (make : Unit {0} → Answer) (c : Array) → error_or e t make ≡ Ok c → (t ≡ false) × (make tt ≡ Ok c)
+passed_or e true make c h = absurd cc
+passed_or e false make c h = (refl, h)
+
+pub above_one-not : (a : Array) → is_above_one a ≡ false → rank a ≤ 1
+above_one-not a h = let below : rank a < 2 = leb-false 2 (rank a) h in omega arith
 
 pub not-above_one : (a : Array) → rank a ≤ 1 → is_above_one a ≡ false
 not-above_one a h = lt-leb 2 (rank a) (omega arith)
