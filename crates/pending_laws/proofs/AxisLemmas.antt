@@ -27,6 +27,7 @@ use Rattle.pending_laws.proofs.AnswerLemmas.{passes_if, passes_or, passed_if, pa
 
 -- ---- reversals
 
+-- an axis that is there is taken
 numbered : (t u : Bool) (j k : ℕ) (make : ℕ → Answer) → t ≡ true → u ≡ true → j ≡ k → error_if error.Rank (not (t && u)) (make j) ≡ make k
 numbered t u j k make e f g = rw (e, f, g) refl
 
@@ -42,6 +43,7 @@ reversed_is_selected o (Numbered z) b k e fits =
     numbered (int_le o z) (int_lt z (o +ℤ pos (rank b))) (unsigned_abs (z -ℤ o)) k (turned b)
     (le-test o z low) (lt-test z (o +ℤ pos (rank b)) (omega (arith, ints, e, fits))) (ap unsigned_abs apart)
 
+-- a number that is within the axes names one
 numbered-axis : (o z : ℤ) (r : ℕ) → (int_le o z && int_lt z (o +ℤ pos r)) ≡ true → (k : ℕ) × (z ≡ o +ℤ pos k) × (k < r)
 numbered-axis o z r h =
     let s = both_parts (int_le o z) (int_lt z (o +ℤ pos r)) h in
@@ -58,10 +60,12 @@ reversed_has_axis o (Numbered z) b c h =
     let t : Bool = int_le o z && int_lt z (o +ℤ pos (rank b)) in
     inr (numbered-axis o z (rank b) (not-false t (passed_if error.Rank (not t) (turned b (unsigned_abs (z -ℤ o))) c h).0))
 
+-- an index without numbers stays as it is
 no_axis : (is : List ℕ) (k v : ℕ) → length is ≡ 0 → slice_set is k v ≡ is
 no_axis [] k v h = refl
 no_axis (i ∷ is) k v h = absurd (omega arith)
 
+-- whichever axis is named
 scalar_stays : (b : Array) (k : ℕ) → IsComplete b → rank b ≡ 0 → gathered b.shape (reverse_index b.shape k) b ≡ b
 scalar_stays b k h r =
     gathered-same b.shape b.shape (reverse_index b.shape k) (λ is. is) b refl
@@ -80,6 +84,7 @@ abbrev pub downward : ℕ → List ℕ
 downward zero = []
 downward (suc n) = n ∷ downward n
 
+-- the numbers in reverse order
 reverse-upward : (n : ℕ) → reverse (upward 0 n) ≡ downward n
 reverse-upward zero = refl
 reverse-upward (suc n) =
@@ -108,6 +113,7 @@ downward-each (suc n) r h =
       | inr l ↦ (0, omega arith, omega (arith, h, l))
     ]
 
+-- they are axes
 downward-axes : (n : ℕ) → AreAxes (axes_rank (downward n)) (downward n)
 downward-axes n =
     subst (λ (k : ℕ). AreAxes k (downward n)) (sym (downward-rank n)) (record { below = downward-below n n (omega arith); each = downward-each n })
@@ -120,6 +126,7 @@ none-sent (suc n) r (m ∷ ns) h =
     ap (λ (t : Bool). if t then m ∷ lengths_at r (downward n) ns else lengths_at r (downward n) ns) (eqb-passed n r (omega arith))
     ∙ none-sent n r ns (omega arith)
 
+-- the length that is sent to axis r is the one as far from the end
 sent : (ns : List ℕ) (r : ℕ) → r < length ns → least (lengths_at r (downward (length ns)) ns) ≡ get_or (reverse ns) r 0
 sent [] r h = absurd (omega arith)
 sent (n ∷ ns) r h = by (sent ns r) (cases_lt r (length ns))
@@ -140,6 +147,7 @@ sent (n ∷ ns) r h = by (sent ns r) (cases_lt r (length ns))
         ∙ ap (λ (xs : List ℕ). least (n ∷ xs)) (none-sent (length ns) r ns l)
         ∙ sym (back ∙ ap (λ (k : ℕ). get_or (reverse ns ++ n ∷ []) k 0) (same ∙ sym (length-reverse ns)) ∙ get_or-append_seam (reverse ns) n [] 0)
 
+-- so the lengths are in reverse order
 flipped-shape : (ns : List ℕ) → transpose_shape (downward (length ns)) ns ≡ reverse ns
 flipped-shape ns =
     let f : ℕ → ℕ = λ r. least (lengths_at r (downward (length ns)) ns) in
@@ -152,6 +160,7 @@ map-reverse f (x ∷ xs) =
     ap (map f) (reverse-append (x ∷ []) xs) ∙ map-append f (reverse xs) (x ∷ [])
     ∙ ap (λ (ys : List ℕ). ys ++ f x ∷ []) (map-reverse f xs) ∙ sym (reverse-append (f x ∷ []) (map f xs))
 
+-- and so is the index that is read
 flipped-index : (is : List ℕ) (n : ℕ) → length is ≡ n → transpose_index (downward n) is ≡ reverse is
 flipped-index is n h =
     ap (map (λ (a : ℕ). slice_index is a)) (sym (reverse-upward n)) ∙ map-reverse (λ (a : ℕ). slice_index is a) (upward 0 n)
@@ -173,6 +182,7 @@ flipped_is_selected b other e = absurd e
 
 -- ---- axes that are named
 
+-- as many axes as numbers
 named-length : (o : ℤ) (a : Array) → length (axes_named o a) ≡ length a.cells
 named-length o a = length-map (less_origin o a) unsigned_abs ∙ length-map a.cells (λ z. z -ℤ o)
 

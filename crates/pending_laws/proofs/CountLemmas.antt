@@ -19,6 +19,7 @@ use Rattle.pending_laws.proofs.ExtensionLemmas.{extension_to_one_element}
 
 -- ---- lengths that become shorter
 
+-- each at most the length beside it
 abbrev AreAtMost : List ℕ → List ℕ → Type 0
 AreAtMost [] [] = Unit {0}
 AreAtMost (m ∷ ms) (n ∷ ns) = (m ≤ n) × AreAtMost ms ns
@@ -43,6 +44,7 @@ within-each b (m ∷ ms) (n ∷ ns) h a = (omega (arith, h.0, a.0), within-each 
 within-each b [] (n ∷ ns) h a = absurd h
 within-each b (m ∷ ms) [] h a = absurd h
 
+-- so they make a shape where the longer ones do
 shorter-shape : (ms ns : List ℕ) → AreAtMost ms ns → IsShape ns → IsShape ms
 shorter-shape ms ns h s = record {
   rank = omega (arith, within-length ms ns h, s.rank);
@@ -52,6 +54,7 @@ shorter-shape ms ns h s = record {
 
 -- ---- what is taken from
 
+-- one element
 ones : (n : ℕ) → size_of (replicate n 1) ≡ 1
 ones zero = refl
 ones (suc n) = omega (arith, ones n)
@@ -72,6 +75,7 @@ taken_from_itself a b h =
 
 -- ---- counts that fit
 
+-- what is taken is no longer
 taken-within : (ns : List ℕ) (counts : List ℤ) → CountsFit ns counts → AreAtMost (take_shape counts) ns
 taken-within [] [] h = tt
 taken-within (n ∷ ns) (a ∷ counts) h = (h.0, taken-within ns counts h.1)
@@ -85,6 +89,7 @@ place-taken n (negsuc a) i fits below =
     let far : n + i - suc a ≡ n - suc a + i = omega (arith, fits) in
     ap (λ (t : Bool). if t then Some (n + i - suc a) else None) (le-leb (suc a) (n + i) (omega (arith, fits))) ∙ ap Some far
 
+-- and so for each axis
 places-taken : (ns : List ℕ) (counts : List ℤ) (is : List ℕ) → CountsFit ns counts → IsIndex (take_shape counts) is →
     all_defined (taken_places ns counts is) ≡ Some (take_index ns counts is)
 places-taken [] [] [] f h = refl
@@ -122,22 +127,26 @@ abs-neg : (m : ℕ) → unsigned_abs (neg_ℤ (pos m)) ≡ m
 abs-neg zero = refl
 abs-neg (suc m) = refl
 
+-- the magnitude is at most the length
 capped-abs : (n : ℕ) (a : ℤ) → unsigned_abs (capped n a) ≡ min (unsigned_abs a) n
 capped-abs n (pos a) = refl
 capped-abs n (negsuc a) = abs-neg (min (suc a) n)
 
+-- so capped counts fit
 capped-fit : (ns : List ℕ) (counts : List ℤ) → length counts ≡ length ns → CountsFit ns (capped_counts ns counts)
 capped-fit [] [] h = tt
 capped-fit (n ∷ ns) (a ∷ counts) h = (omega (arith, capped-abs n a), capped-fit ns counts (omega (arith, h)))
 capped-fit [] (a ∷ counts) h = absurd (omega (arith, h))
 capped-fit (n ∷ ns) [] h = absurd (omega (arith, h))
 
+-- what is left is no longer
 dropped-within : (ns : List ℕ) (counts : List ℤ) → length counts ≡ length ns → AreAtMost (drop_shape ns counts) ns
 dropped-within [] [] h = tt
 dropped-within (n ∷ ns) (a ∷ counts) h = (omega arith, dropped-within ns counts (omega (arith, h)))
 dropped-within [] (a ∷ counts) h = absurd (omega (arith, h))
 dropped-within (n ∷ ns) [] h = absurd (omega (arith, h))
 
+-- as many elements are left
 capped-shape : (ns : List ℕ) (counts : List ℤ) → drop_shape ns (capped_counts ns counts) ≡ drop_shape ns counts
 capped-shape [] counts = refl
 capped-shape (n ∷ ns) [] = refl
@@ -145,14 +154,17 @@ capped-shape (n ∷ ns) (a ∷ counts) =
     let here : n - unsigned_abs (capped n a) ≡ n - unsigned_abs a = omega (arith, capped-abs n a) in
     ap (λ (k : ℕ). k ∷ drop_shape ns (capped_counts ns counts)) here ∙ ap (λ (ks : List ℕ). (n - unsigned_abs a) ∷ ks) (capped-shape ns counts)
 
+-- without the last ones each place stays
 dropped-back : (n m i : ℕ) → dropped n (neg_ℤ (pos m)) i ≡ i
 dropped-back n zero i = omega arith
 dropped-back n (suc m) i = refl
 
+-- the same place is read
 capped-place : (n : ℕ) (a : ℤ) (i : ℕ) → dropped n (capped n a) i ≡ dropped n a i
 capped-place n (pos a) i = omega arith
 capped-place n (negsuc a) i = dropped-back n (min (suc a) n) i
 
+-- and so for each axis
 capped-index : (ns : List ℕ) (counts : List ℤ) (is : List ℕ) → drop_index ns (capped_counts ns counts) is ≡ drop_index ns counts is
 capped-index [] counts is = refl
 capped-index (n ∷ ns) [] is = refl
@@ -181,6 +193,7 @@ dropped_is_selected a b other h shape e = absurd e
 
 -- ---- where there is an answer
 
+-- three tests that are passed
 counts-named : (a b c : Array) (next : Answer) → IsComplete a →
     error_if error.Rank (is_above_one a) (error_if error.Length (not (count a == length (taken_shape a b))) (error_if error.Domain (is_text a) next)) ≡ Ok c → ListsCounts a b
 counts-named a b c next h e =

@@ -25,18 +25,22 @@ use Rattle.pending_laws.proofs.AnswerLemmas.{passes_if, passes_limit, le-test, l
 
 -- ---- what is in progression
 
+-- numbers are no text
 no_text : (p : Array) → p.kind ≡ Num → is_text p ≡ false
 no_text p e = ap (λ (k : Kind). is_char k && not (is_empty p)) e
 
+-- of a scalar there are none
 no_axis : (ns : List ℕ) → length ns ≡ 0 → ns ≡ []
 no_axis [] h = refl
 no_axis (n ∷ ns) h = absurd (omega (arith, h))
 
+-- lengths of one axis are the size
 one_axis : (ns : List ℕ) (m : ℕ) → length ns ≡ 1 → m ≡ size_of ns → ns ≡ m ∷ []
 one_axis [] m h e = absurd (omega (arith, h))
 one_axis (n ∷ []) m h e = let same : n ≡ m = omega (arith, e) in ap (λ (k : ℕ). k ∷ []) same
 one_axis (n ∷ k ∷ ns) m h e = absurd (omega (arith, h))
 
+-- the one number is that of the run
 lone-each : (cells : List ℤ) (z : ℤ) → length cells ≡ 1 → slice_index_or cells 0 (pos 0) ≡ z → (j : ℕ) → j < length cells → slice_index_or cells j (pos 0) ≡ run_value (lone_number z) j
 lone-each cells z h e zero below = e ∙ omega (arith, ints)
 lone-each cells z h e (suc j) below = absurd (omega (arith, below, h))
@@ -70,10 +74,12 @@ by_places P (x ∷ xs) h = (h 0 (omega arith), by_places P xs (λ j below. h (su
 named : (o : ℤ) (n : ℕ) (v : ℤ) → NamesPlace o n v → is_place o n v ≡ true
 named o n v h = rw (le-test o v h.0, lt-test v (o +ℤ pos n) h.1) refl
 
+-- no position is characters
 item-number : (o : ℤ) (n : ℕ) (p : Option Array) (kept : Item) → IsItemAt o n p kept → is_text_position p ≡ false
 item-number o n None kept h = refl
 item-number o n (Some p) kept h = h.progression.numbers
 
+-- each value is on the axis
 item-axis : (o : ℤ) (n : ℕ) (p : Option Array) (kept : Item) → IsItemAt o n p kept → in_axis o n p ≡ true
 item-axis o n None kept h = refl
 item-axis o n (Some p) kept h =
@@ -83,6 +89,7 @@ item-axis o n (Some p) kept h =
     let on : j < r.n = omega (arith, below, h.progression.run.count) in
     ap (is_place o n) here ∙ named o n (run_value r j) (h.on_axis j on)))
 
+-- an item gives the axes of its position
 item-shape : (o : ℤ) (n : ℕ) (p : Option Array) (kept : Item) → IsItemAt o n p kept → subscript_shape (position_of kept ∷ []) (n ∷ []) ≡ axes_of n p
 item-shape o n None kept h = ap (λ (i : Item). subscript_shape (position_of i ∷ []) (n ∷ [])) h
 item-shape o n (Some p) kept h = h.places.shape ∙ sym h.progression.shape
@@ -96,6 +103,7 @@ progression-cell p r is_scalar j h below e =
     ∙ ap (λ (k : ℕ). slice_index_or p.cells k (pos 0)) e
     ∙ h.run.each j (omega (arith, below, h.run.count))
 
+-- an item of a progression reads the place that the cell at the index names
 kept-index : (o : ℤ) (n : ℕ) (p : Array) (kept : Item) (r : Run) (is_scalar : Bool) (is : List ℕ) → AreInProgression p r is_scalar → IsItemOf o n r is_scalar kept →
     IsIndex (positions.positions_shape is_scalar r.n) is → subscript_index (position_of kept ∷ []) is ≡ unsigned_abs (cell_at p is -ℤ o) ∷ []
 kept-index o n p kept r true [] h i q =
@@ -109,6 +117,7 @@ kept-index o n p kept r false (j ∷ []) h i q =
 kept-index o n p kept r false [] h i q = absurd q
 kept-index o n p kept r false (j ∷ k ∷ is) h i q = absurd q.1
 
+-- and so does every item
 item-index : (o : ℤ) (n : ℕ) (p : Option Array) (kept : Item) (is : List ℕ) → IsItemAt o n p kept → IsIndex (axes_of n p) is →
     subscript_index (position_of kept ∷ []) is ≡ place_of o p is
 item-index o n None kept (i ∷ []) h q = ap (λ (k : Item). subscript_index (position_of k ∷ []) (i ∷ [])) h
@@ -119,11 +128,13 @@ item-index o n (Some p) kept is h q =
 
 -- ---- one position, and then the others
 
+-- the axes of the first item stand first
 shape-step : (q : Position) (qs : List Position) (n : ℕ) (ns : List ℕ) → subscript_shape (q ∷ qs) (n ∷ ns) ≡ subscript_shape (q ∷ []) (n ∷ []) ++ subscript_shape qs ns
 shape-step whole qs n ns = refl
 shape-step (one p) qs n ns = refl
 shape-step (run from step count) qs n ns = refl
 
+-- and its numbers in the index
 index-step : (q : Position) (qs : List Position) (n : ℕ) (js ks : List ℕ) → length js ≡ length (subscript_shape (q ∷ []) (n ∷ [])) →
     subscript_index (q ∷ qs) (js ++ ks) ≡ subscript_index (q ∷ []) js ++ subscript_index qs ks
 index-step whole qs n [] ks h = absurd (omega (arith, h))
@@ -143,6 +154,7 @@ parts (m ∷ ms) ns [] h = absurd h
 
 -- ---- all positions
 
+-- a position for each axis
 items-count : (o : ℤ) (ns : List ℕ) (ps : List (Option Array)) (items : List Item) → AreItems o ns ps items → length ps ≡ length ns
 items-count o [] [] [] h = refl
 items-count o (n ∷ ns) (p ∷ ps) (i ∷ items) h = ap suc (items-count o ns ps items h.1)
@@ -151,6 +163,7 @@ items-count o [] (p ∷ ps) items h = absurd h
 items-count o (n ∷ ns) [] items h = absurd h
 items-count o (n ∷ ns) (p ∷ ps) [] h = absurd h
 
+-- no position is characters, and all lie in their axes
 items-tests : (o : ℤ) (ns : List ℕ) (ps : List (Option Array)) (items : List Item) → AreItems o ns ps items →
     (list_any is_text_position ps ≡ false) × (in_axes o ns ps ≡ true)
 items-tests o [] [] [] h = (refl, refl)
@@ -164,6 +177,7 @@ items-tests o [] (p ∷ ps) items h = absurd h
 items-tests o (n ∷ ns) [] items h = absurd h
 items-tests o (n ∷ ns) (p ∷ ps) [] h = absurd h
 
+-- the same axes
 items-shape : (o : ℤ) (ns : List ℕ) (ps : List (Option Array)) (items : List Item) → AreItems o ns ps items → subscript_shape (map position_of items) ns ≡ positions_shape ns ps
 items-shape o [] [] [] h = refl
 items-shape o (n ∷ ns) (p ∷ ps) (i ∷ items) h =
@@ -175,6 +189,7 @@ items-shape o [] (p ∷ ps) items h = absurd h
 items-shape o (n ∷ ns) [] items h = absurd h
 items-shape o (n ∷ ns) (p ∷ ps) [] h = absurd h
 
+-- the same index is read
 items-index : (o : ℤ) (ns : List ℕ) (ps : List (Option Array)) (items : List Item) (is : List ℕ) → AreItems o ns ps items → IsIndex (positions_shape ns ps) is →
     subscript_index (map position_of items) is ≡ positions_index o ns ps is
 items-index o [] [] [] is h q = refl
