@@ -1,9 +1,9 @@
 -- A segment whose leaves are selections means the selection of what the old one means.
-use Rattle.std.proofs.Common.{◌≡◌, ℕ, zero, suc, ◌+◌, ◌<◌, ℤ, pos, false, IsTrue, List, [], ◌∷◌, length, map, get_or, Option, Some, refl, sym, ap, ◌∙◌, subst, arith, zero-add}
+use Rattle.std.proofs.Common.{◌≡◌, ℕ, ℤ, pos, false, IsTrue, List, [], ◌∷◌, length, Option, Some, refl, sym, ap, ◌∙◌, subst, arith}
 use Rattle.std.specs.List.{AllByRecursion}
 use Rattle.apl_base.specs.declared.cells.Elem.{Elem}
 use Rattle.apl_base.specs.declared.cells.Interval.{Interval}
-use Rattle.apl_base.specs.Array.{Array, IsShape, IsIndex, size_of, index_at, place_at, cell_at}
+use Rattle.apl_base.specs.Array.{Array, IsShape, IsIndex, size_of, place_at, cell_at}
 use Rattle.apl_base.specs.Interval.{InInterval, IsInterval}
 use Rattle.apl_base.proofs.Lists.{all_place}
 use Rattle.apl_base.proofs.Sizes.{place_at-below}

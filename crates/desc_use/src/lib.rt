@@ -11,6 +11,9 @@ use apl_base::Cell;
 use array_desc::{Desc, Row, RowWalk};
 use std::alloc::{AllocError, Global};
 
+#[cfg(test)]
+mod tests;
+
 /// The numbers of a descriptor at the places from `first` on, in row-major order, taken in rows of at most
 /// `most` numbers.
 pub fn numbers_from(

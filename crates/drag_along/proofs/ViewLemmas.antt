@@ -1,20 +1,19 @@
 -- Leaves that read all cells of an owner.
-use Rattle.std.proofs.Common.{◌≡◌, ℕ, ◌+◌, ◌<◌, ◌≤◌, ℤ, pos, List, [], ◌∷◌, length, map, get_or, Some, refl, sym, ap, ◌∙◌, subst, arith}
+use Rattle.std.proofs.Common.{◌≡◌, ℕ, ℤ, pos, List, length, get_or, refl, sym, ap, ◌∙◌, subst, arith}
 use Rattle.std.specs.Prelude.{unsigned_abs, slice_set}
 use Rattle.std.proofs.lemmas.Int.{ints}
 use Rattle.std.proofs.lemmas.List.{length-set}
 use Rattle.std.proofs.Math.ListN.{set}
 use Rattle.apl_base.specs.declared.cells.Kind.{Kind}
-use Rattle.apl_base.specs.Array.{Array, IsIndex, size_of, index_at, place_at}
+use Rattle.apl_base.specs.Array.{Array, IsIndex, size_of, index_at}
 use Rattle.apl_base.specs.Interval.{hull}
 use Rattle.apl_base.proofs.Sizes.{IsIndex-index_at, place_at-below, place_at-index_at}
 use Rattle.apl_base.proofs.Upward.{list_by_places}
 use Rattle.array_desc.specs.Desc.{DescView, IsWhole, number}
-use Rattle.array_store.specs.Stores.{OwnerView, StoreView, owner_of, holders_of, cells_of, kind_of, interval_of, with_cell}
+use Rattle.array_store.specs.Stores.{OwnerView, StoreView, owner_of, cells_of, kind_of, interval_of, with_cell}
 use Rattle.array_store.proofs.StoreLemmas.{owner_found, owner_of-found, owner_at-with_cell}
 use Rattle.drag_along.specs.declared.leaves.Leaf.{Leaf}
 use Rattle.drag_along.specs.declared.leaves.Leaf.TheVariants.{Stored}
-use Rattle.drag_along.specs.Nodes.{leaf_shape}
 use Rattle.drag_along.specs.Meaning.{leaf_cell, leaf_array}
 use Rattle.drag_along.specs.Lawful.{LiesIn}
 use Rattle.drag_along.specs.Views.{IsWholeView, FillsShape, owner_array, StandsForArray}

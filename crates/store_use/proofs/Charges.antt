@@ -1,8 +1,8 @@
 -- Each live owner charged to its place among those that came.
-use Rattle.std.proofs.Common.{◌≡◌, ℕ, ◌<◌, ◌≤◌, ℤ, List, [], length, map, get_or, Option, None, unwrap_or, refl, sym, ap, ◌∙◌, subst, inl, inr, arith}
+use Rattle.std.proofs.Common.{◌≡◌, ℕ, ◌<◌, ◌≤◌, List, length, map, get_or, Option, unwrap_or, sym, ap, ◌∙◌, subst, inl, inr, arith}
 use Rattle.std.specs.Prelude.{sum}
 use Rattle.std.proofs.lemmas.Bool.{cases_lt}
-use Rattle.std.proofs.lemmas.List.{get_or_default, length-map, get_or-map}
+use Rattle.std.proofs.lemmas.List.{get_or_default, get_or-map}
 use Rattle.array_store.specs.Stores.{OwnerView, StoreView, IsStore, empty_store, no_owner, holders_of, cells_of}
 use Rattle.array_store.specs.Came.{Came, Renews, IsCharged}
 use Rattle.array_store.proofs.StoreLemmas.{nobody_holds_none}

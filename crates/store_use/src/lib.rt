@@ -30,8 +30,10 @@ pub fn written_and_let_go(
     ensures owners { (key : ℕ) → owner_at store.new key ≡ owner_at store.old key }
     ensures live { store.new.live ≡ store.old.live }
     ensures limit { store.new.limit ≡ store.old.limit }
-    ensures fetched { IfOk result (λ _. store.new.counts.fetched ≡ counted store.old.counts.fetched 1) }
-    ensures made { IfOk result (λ _. store.new.counts.made ≡ counted store.old.counts.made (vec_len cells)) }
+    ensures fetched { IfOk result (λ _.
+        store.new.counts.fetched ≡ counted store.old.counts.fetched 1) }
+    ensures made { IfOk result (λ _.
+        store.new.counts.made ≡ counted store.old.counts.made (vec_len cells)) }
     ensures applied { store.new.counts.applied ≡ store.old.counts.applied }
     ensures unchanged { OnErr result (store.new ≡ store.old) }
 {
