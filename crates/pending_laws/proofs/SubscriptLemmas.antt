@@ -1,15 +1,18 @@
 -- Positions of a subscript, one after the other.
-use Rattle.std.proofs.Common.{◌≡◌, ◌==◌, ℕ, zero, suc, ◌+◌, ◌*◌, ◌<◌, Bool, true, false, not, ◌&&◌, ◌||◌, ℤ, pos, ◌+ℤ◌, ◌-ℤ◌, unsigned_abs, List, [], ◌∷◌, ◌++◌, length, map, take, drop, Option, Some, None, Ok, refl, sym, ap, subst, ◌∙◌, arith}
+use Rattle.std.proofs.Common.{◌≡◌, ◌==◌, ℕ, zero, suc, ◌+◌, ◌*◌, ◌<◌, Bool, true, false, not, ◌&&◌, ◌||◌, ℤ, pos, ◌+ℤ◌, ◌-ℤ◌, unsigned_abs, List, [], ◌∷◌, ◌++◌, length, map, take, drop, Option, Some, None, Ok, refl, sym, ap, subst, ◌∙◌, arith, int_le, int_lt}
 use Rattle.std.specs.Prelude.{slice_index_or}
 use Rattle.std.specs.List.{AllByRecursion, list_any}
 use Rattle.std.proofs.lemmas.List.{take-append-drop}
+use Rattle.std.proofs.lemmas.Bool.{eqb-true}
 use Rattle.std.proofs.lemmas.Int.{ints}
 use Rattle.apl_base.specs.declared.cells.Kind.{Kind}
 use Rattle.apl_base.specs.declared.cells.Kind.TheVariants.{Num}
 use Rattle.apl_base.specs.declared.faults.ErrorKind.TheVariants as error
 use Rattle.apl_base.specs.Array.{Array, IsShape, IsIndex, size_of, place_at, cell_at}
+use Rattle.apl_base.specs.Elements.{gathered}
 use Rattle.apl_base.specs.Selection.{Position, whole, one, run, subscript_shape, subscript_index}
-use Rattle.apl_base.proofs.Booleans.{eqb-same, each-list_all}
+use Rattle.apl_base.proofs.Lists.{all_imp}
+use Rattle.apl_base.proofs.Booleans.{both_parts, neither_part, not-false, list_all-each, eqb-same, each-list_all}
 use Rattle.apl_base.proofs.Sizes.{IsIndex-length}
 use Rattle.beating.specs.declared.runs.Run.{Run}
 use Rattle.beating.specs.declared.selections.Item.{Item}
@@ -18,10 +21,10 @@ use Rattle.beating.specs.Runs.{run_value}
 use Rattle.beating.specs.Positions.{NamesPlace, OnAxis, IsItemOf}
 use Rattle.beating.specs.Positions as positions
 use Rattle.beating.specs.Selecting.{position_of}
-use Rattle.apl_model.specs.Whole.{Answer, rank, is_char, is_empty, is_text, first}
+use Rattle.apl_model.specs.Whole.{Answer, rank, is_char, is_empty, is_text, first, error_if, within_limit}
 use Rattle.apl_model.specs.Subscript.{is_text_position, is_place, in_axis, in_axes, axes_of, positions_shape, place_of, positions_index}
-use Rattle.pending_laws.specs.Subscripts.{AreInProgression, lone_number, ScalarsAreInProgression, RunsAreInProgression, IsItemAt, AreItems, SubscriptIsSelected}
-use Rattle.pending_laws.proofs.AnswerLemmas.{passes_if, passes_limit, le-test, lt-test, gathered-same}
+use Rattle.pending_laws.specs.Subscripts.{NamesPlaces, EachNamesPlaces, SubscriptHasPlaces, AreInProgression, lone_number, ScalarsAreInProgression, RunsAreInProgression, IsItemAt, AreItems, SubscriptIsSelected}
+use Rattle.pending_laws.proofs.AnswerLemmas.{passed_if, passes_if, passes_limit, le-test, lt-test, gathered-same}
 
 -- ---- what is in progression
 
@@ -221,3 +224,32 @@ subscript_is_selected o a ps (select.Index given) h fits =
     ∙ ap ok (sym (gathered-same (subscript_shape qs a.shape) (positions_shape a.shape ps) (subscript_index qs) (positions_index o a.shape ps) a shape
     (λ is q. items-index o a.shape ps given.items is h q)))
 subscript_is_selected o a ps other h fits = absurd h
+
+-- ---- where there is an answer
+
+place-named : (o : ℤ) (n : ℕ) (v : ℤ) → is_place o n v ≡ true → NamesPlace o n v
+place-named o n v h = let s = both_parts (int_le o v) (int_lt v (o +ℤ pos n)) h in (omega (arith, ints, s.0), omega (arith, ints, s.1))
+
+places-named : (o : ℤ) (n : ℕ) (p : Option Array) → is_text_position p ≡ false → in_axis o n p ≡ true → NamesPlaces o n p
+places-named o n None t h = tt
+places-named o n (Some p) t h = (t, all_imp (λ v. is_place o n v ≡ true) (NamesPlace o n) p.cells (place-named o n) (list_all-each (is_place o n) p.cells h))
+
+each-named : (o : ℤ) (ns : List ℕ) (ps : List (Option Array)) → length ps ≡ length ns → list_any is_text_position ps ≡ false → in_axes o ns ps ≡ true → EachNamesPlaces o ns ps
+each-named o [] [] l t h = tt
+each-named o (n ∷ ns) (p ∷ ps) l t h =
+    let x = neither_part (is_text_position p) (list_any is_text_position ps) t in
+    let y = both_parts (in_axis o n p) (in_axes o ns ps) h in
+    (places-named o n p x.0 y.0, each-named o ns ps (omega (arith, l)) x.1 y.1)
+each-named o [] (p ∷ ps) l t h = absurd (omega (arith, l))
+each-named o (n ∷ ns) [] l t h = absurd (omega (arith, l))
+
+pub subscript_has_places : SubscriptHasPlaces
+subscript_has_places o a c ps h =
+    let many : Bool = length ps == rank a in
+    let last : Answer = within_limit (positions_shape a.shape ps) (λ _. Ok (gathered (positions_shape a.shape ps) (positions_index o a.shape ps) a)) in
+    let third : Answer = error_if error.Index (not (in_axes o a.shape ps)) last in
+    let second : Answer = error_if error.Domain (list_any is_text_position ps) third in
+    let p = passed_if error.Rank (not many) second c h in
+    let q = passed_if error.Domain (list_any is_text_position ps) third c p.1 in
+    let r = passed_if error.Index (not (in_axes o a.shape ps)) last c q.1 in
+    each-named o a.shape ps (eqb-true (length ps) (rank a) (not-false many p.0)) q.0 (not-false (in_axes o a.shape ps) r.0)

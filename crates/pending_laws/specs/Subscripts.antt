@@ -1,5 +1,6 @@
 -- Subscripts whose positions are left out, scalars or progressions are selections of an array.
 use Rattle.std.specs.Prelude.{◌≡◌, ℕ, ℤ, pos, Bool, true, false, List, [], ◌∷◌, Option, Some, None, Ok}
+use Rattle.std.specs.List.{AllByRecursion}
 use Rattle.apl_base.specs.declared.cells.Kind.TheVariants.{Num}
 use Rattle.apl_base.specs.Array.{Array}
 use Rattle.beating.specs.declared.runs.Run.{Run}
@@ -8,7 +9,7 @@ use Rattle.beating.specs.declared.selections.Item.TheVariants as item
 use Rattle.beating.specs.declared.selections.Selection.{Selection}
 use Rattle.beating.specs.declared.selections.Selection.TheVariants as select
 use Rattle.beating.specs.Runs.{IsRunOf}
-use Rattle.beating.specs.Positions.{OnAxis, positions_shape, IsItemOf}
+use Rattle.beating.specs.Positions.{NamesPlace, OnAxis, positions_shape, IsItemOf}
 use Rattle.beating.specs.Selecting.{Fits, selected}
 use Rattle.apl_model.specs.Whole.{rank, is_text, first}
 use Rattle.apl_model.specs.Subscript.{subscript}
@@ -65,3 +66,20 @@ abbrev pub SubscriptIsSelected : Type 0
 SubscriptIsSelected =
     (o : ℤ) (a : Array) (ps : List (Option Array)) (by : Selection) → KeepsItems o a.shape ps by → Fits by a.shape
     → subscript o a ps ≡ Ok (selected by a)
+
+-- each value of a position names a place of its axis
+abbrev pub NamesPlaces : ℤ → ℕ → Option Array → Type 0
+NamesPlaces o n None = Unit {0}
+NamesPlaces o n (Some p) = (is_text p ≡ false) × AllByRecursion (NamesPlace o n) p.cells
+
+-- and so for each axis, each of which has a position
+abbrev pub EachNamesPlaces : ℤ → List ℕ → List (Option Array) → Type 0
+EachNamesPlaces o [] [] = Unit {0}
+EachNamesPlaces o (n ∷ ns) (p ∷ ps) = NamesPlaces o n p × EachNamesPlaces o ns ps
+EachNamesPlaces o ns ps = ⊥
+
+-- where there is an answer, the positions name places
+abbrev pub SubscriptHasPlaces : Type 0
+SubscriptHasPlaces =
+    (o : ℤ) (a c : Array) (ps : List (Option Array)) → subscript o a ps ≡ Ok c
+    → EachNamesPlaces o a.shape ps

@@ -1,6 +1,6 @@
 //! Selections of the language are selections of an array.
 ghost use Rattle.pending_laws.specs.Selections.{ReversedIsSelected, ReversedHasAxis, ReversedScalarStays, FlippedIsSelected, TransposedIsSelected, TransposedHasAxes, TakenScalarExtends, TakenFromItself, TakenIsSelected, DroppedIsSelected, TakenHasCounts, DroppedHasCounts};
-ghost use Rattle.pending_laws.specs.Subscripts.{ScalarsAreInProgression, RunsAreInProgression, SubscriptIsSelected};
+ghost use Rattle.pending_laws.specs.Subscripts.{ScalarsAreInProgression, RunsAreInProgression, SubscriptIsSelected, SubscriptHasPlaces};
 
 /// `⌽` and `⊖` of one argument turn round the axis that is named, and leave a scalar as it is.
 pub fn reversals_select()
@@ -32,4 +32,5 @@ pub fn subscripts_select()
     ensures scalar { ScalarsAreInProgression }
     ensures vector { RunsAreInProgression }
     ensures subscript { SubscriptIsSelected }
+    ensures exact { SubscriptHasPlaces }
 {}
