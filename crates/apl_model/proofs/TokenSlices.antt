@@ -190,8 +190,8 @@ front_pieces (suc n) k (suc m) (c ∷ cs) qs s h f =
 front_pieces zero k zero (c ∷ cs) qs s h f = none_before (k + 0) (pieces_after 0 k (c ∷ cs)) qs (pieces_in_order 0 k (c ∷ cs)) f
 front_pieces zero k (suc m) (c ∷ cs) qs s h f =
     char_front (is_blank c) (c == code "⍝") k c m cs qs refl refl s f (λ n rs t i g.
-        let e : k + suc m ≡ (k + 1) + m = omega arith in
-        front_pieces n (k + 1) m cs rs t i (subst (λ j. Front j (pieces_after n (k + 1) cs) rs) e g))
+    let e : k + suc m ≡ (k + 1) + m = omega arith in
+    front_pieces n (k + 1) m cs rs t i (subst (λ j. Front j (pieces_after n (k + 1) cs) rs) e g))
 
 -- ---- The pieces of a token ----
 
@@ -218,7 +218,7 @@ alone : (a b : ℕ) (v : Found) (ps : List Piece) (w : Word) → a < b → InOrd
     PiecesOf (one a b v ∷ ps) (record { from = a; past = b; word = w })
 alone a b v ps w l i e = record { own = one a b v ∷ []; front = (refl, omega arith, nothing_before b ps i); starts = refl; ends = l; token = e }
 
-same_head : (t u : Token) (ts us : List Token) → t ∷ ts ≡ u ∷ us → t ≡ u
+pub same_head : (t u : Token) (ts us : List Token) → t ∷ ts ≡ u ∷ us → t ≡ u
 same_head t u ts us e = cc
 
 none_some : {A : Type 0} (t : Token) (us : List Token) → [] ≡ t ∷ us → A
@@ -310,7 +310,7 @@ here t k cs ps e st r s f =
     let m : k + (t.past - k) ≡ t.past = omega arith in
     let z : k - k ≡ 0 = omega arith in
     let own : pieces_after 0 k (take (t.past - k) cs) ≡ r.own =
-        front_pieces 0 k (t.past - k) cs r.own (subst AreSound (sym e) s) (omega arith) (subst (λ j. Front j (pieces_after 0 k cs) r.own) (sym m) (subst (λ v. Front t.past v r.own) (sym e) r.front)) in
+    front_pieces 0 k (t.past - k) cs r.own (subst AreSound (sym e) s) (omega arith) (subst (λ j. Front j (pieces_after 0 k cs) r.own) (sym m) (subst (λ v. Front t.past v r.own) (sym e) r.front)) in
     subst (λ j. ReadsAt t k j cs) (sym f)
     (subst (λ j. let qs = pieces_after 0 k (take (t.past - k) (drop j cs)) in (k ≤ k) × AreSound qs × (tokens_of_pieces qs ≡ t ∷ [])) (sym z)
     (omega arith, subst AreSound (sym own) (sound_front t.past ps r.own s r.front), ap tokens_of_pieces own ∙ r.token))

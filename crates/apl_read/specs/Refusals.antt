@@ -51,4 +51,3 @@ bytes_refusal bytes =
 -- the first refusal of a script's bytes and characters. What can't be read stands behind all that can
 abbrev pub reading_refusal : List ℕ → Option Refusal
 reading_refusal bytes = option_or (lines_refusal 1 (texts_of bytes)) (bytes_refusal bytes)
-

@@ -2,23 +2,24 @@
 use Rattle.std.proofs.Common.{◌≡◌, ◌==◌, ℕ, zero, suc, ◌+◌, ◌-◌, ◌^◌, ◌<◌, ◌≤◌, min, Bool, false, not, if◌then◌else◌, ℤ, pos, negsuc, neg_ℤ, unsigned_abs, List, [], ◌∷◌, length, replicate, Some, None, Ok, refl, sym, ap, subst, ◌∙◌, arith}
 use Rattle.std.specs.List.{AllByRecursion}
 use Rattle.std.proofs.Math.Nat.{mul-le-mul}
-use Rattle.std.proofs.lemmas.Bool.{lt-ltb, le-leb}
+use Rattle.std.proofs.lemmas.Bool.{eqb-true, lt-ltb, le-leb}
 use Rattle.apl_base.specs.declared.faults.ErrorKind.TheVariants as error
 use Rattle.apl_base.specs.Array.{Array, IsShape, IsIndex, size_of, cell_at}
 use Rattle.apl_base.specs.Elements.{all_defined, tabulated, gathered}
 use Rattle.apl_base.specs.Selection.{CountsFit, take_shape, taken, take_index, drop_shape, dropped, drop_index}
-use Rattle.apl_base.proofs.Booleans.{eqb-same, eqb-other}
+use Rattle.apl_base.proofs.Booleans.{not-false, eqb-same, eqb-other}
 use Rattle.apl_base.proofs.Elements.{all_defined-cons, tabulated-same}
 use Rattle.beating.specs.declared.selections.Selection.TheVariants as select
-use Rattle.apl_model.specs.Whole.{Answer, rank, count, is_text}
+use Rattle.apl_model.specs.Whole.{Answer, rank, count, is_text, error_if}
 use Rattle.apl_model.specs.Made.{is_above_one, taken_shape, taken_place, taken_places, read_or_fill, with_shape}
 use Rattle.pending_laws.specs.Joins.{IsComplete}
-use Rattle.pending_laws.specs.Selections.{capped, capped_counts, TakenScalarExtends, TakenFromItself, TakenIsSelected, DroppedIsSelected}
-use Rattle.pending_laws.proofs.AnswerLemmas.{passes_if, passes_limit, not-above_one, gathered-same}
+use Rattle.pending_laws.specs.Selections.{capped, capped_counts, ListsCounts, TakenScalarExtends, TakenFromItself, TakenIsSelected, DroppedIsSelected, TakenHasCounts, DroppedHasCounts}
+use Rattle.pending_laws.proofs.AnswerLemmas.{passes_if, passes_limit, passed_if, above_one-not, not-above_one, gathered-same}
 use Rattle.pending_laws.proofs.ExtensionLemmas.{extension_to_one_element}
 
 -- ---- lengths that become shorter
 
+-- each at most the length beside it
 abbrev AreAtMost : List ℕ → List ℕ → Type 0
 AreAtMost [] [] = Unit {0}
 AreAtMost (m ∷ ms) (n ∷ ns) = (m ≤ n) × AreAtMost ms ns
@@ -43,6 +44,7 @@ within-each b (m ∷ ms) (n ∷ ns) h a = (omega (arith, h.0, a.0), within-each 
 within-each b [] (n ∷ ns) h a = absurd h
 within-each b (m ∷ ms) [] h a = absurd h
 
+-- so they make a shape where the longer ones do
 shorter-shape : (ms ns : List ℕ) → AreAtMost ms ns → IsShape ns → IsShape ms
 shorter-shape ms ns h s = record {
   rank = omega (arith, within-length ms ns h, s.rank);
@@ -52,6 +54,7 @@ shorter-shape ms ns h s = record {
 
 -- ---- what is taken from
 
+-- one element
 ones : (n : ℕ) → size_of (replicate n 1) ≡ 1
 ones zero = refl
 ones (suc n) = omega (arith, ones n)
@@ -72,12 +75,7 @@ taken_from_itself a b h =
 
 -- ---- counts that fit
 
-fit-length : (ns : List ℕ) (counts : List ℤ) → CountsFit ns counts → length counts ≡ length ns
-fit-length [] [] h = refl
-fit-length (n ∷ ns) (a ∷ counts) h = ap suc (fit-length ns counts h.1)
-fit-length [] (a ∷ counts) h = absurd h
-fit-length (n ∷ ns) [] h = absurd h
-
+-- what is taken is no longer
 taken-within : (ns : List ℕ) (counts : List ℤ) → CountsFit ns counts → AreAtMost (take_shape counts) ns
 taken-within [] [] h = tt
 taken-within (n ∷ ns) (a ∷ counts) h = (h.0, taken-within ns counts h.1)
@@ -91,6 +89,7 @@ place-taken n (negsuc a) i fits below =
     let far : n + i - suc a ≡ n - suc a + i = omega (arith, fits) in
     ap (λ (t : Bool). if t then Some (n + i - suc a) else None) (le-leb (suc a) (n + i) (omega (arith, fits))) ∙ ap Some far
 
+-- and so for each axis
 places-taken : (ns : List ℕ) (counts : List ℤ) (is : List ℕ) → CountsFit ns counts → IsIndex (take_shape counts) is →
     all_defined (taken_places ns counts is) ≡ Some (take_index ns counts is)
 places-taken [] [] [] f h = refl
@@ -115,9 +114,9 @@ taken_is_selected a b (select.Take given) h shape e fits =
     let cells : tabulated b.kind (take_shape a.cells) (λ is. read_or_fill c (all_defined (taken_places ns a.cells is))) ≡ made a.cells =
     tabulated-same b.kind (take_shape a.cells) (λ is. read_or_fill c (all_defined (taken_places ns a.cells is))) (λ is. cell_at c (take_index ns a.cells is))
     (λ is q. ap (read_or_fill c) (places-taken ns a.cells is fit q)) in
-    passes_if error.Rank (is_above_one a) _ (not-above_one a h.axes)
-    ∙ passes_if error.Length (not (count a == length ns)) _ (same-count a ns h.complete (fit-length ns a.cells fit))
-    ∙ passes_if error.Domain (is_text a) _ h.numbers
+    passes_if error.Rank (is_above_one a) _ (not-above_one a h.list.axes)
+    ∙ passes_if error.Length (not (count a == length ns)) _ (same-count a ns h.list.complete h.count)
+    ∙ passes_if error.Domain (is_text a) _ h.list.numbers
     ∙ passes_limit (take_shape a.cells) _ (shorter-shape (take_shape a.cells) ns (taken-within ns a.cells fit) shape)
     ∙ ap ok cells ∙ ap (λ (counts : List ℤ). ok (made counts)) (sym e)
 taken_is_selected a b other h shape e fits = absurd e
@@ -128,22 +127,26 @@ abs-neg : (m : ℕ) → unsigned_abs (neg_ℤ (pos m)) ≡ m
 abs-neg zero = refl
 abs-neg (suc m) = refl
 
+-- the magnitude is at most the length
 capped-abs : (n : ℕ) (a : ℤ) → unsigned_abs (capped n a) ≡ min (unsigned_abs a) n
 capped-abs n (pos a) = refl
 capped-abs n (negsuc a) = abs-neg (min (suc a) n)
 
+-- so capped counts fit
 capped-fit : (ns : List ℕ) (counts : List ℤ) → length counts ≡ length ns → CountsFit ns (capped_counts ns counts)
 capped-fit [] [] h = tt
 capped-fit (n ∷ ns) (a ∷ counts) h = (omega (arith, capped-abs n a), capped-fit ns counts (omega (arith, h)))
 capped-fit [] (a ∷ counts) h = absurd (omega (arith, h))
 capped-fit (n ∷ ns) [] h = absurd (omega (arith, h))
 
+-- what is left is no longer
 dropped-within : (ns : List ℕ) (counts : List ℤ) → length counts ≡ length ns → AreAtMost (drop_shape ns counts) ns
 dropped-within [] [] h = tt
 dropped-within (n ∷ ns) (a ∷ counts) h = (omega arith, dropped-within ns counts (omega (arith, h)))
 dropped-within [] (a ∷ counts) h = absurd (omega (arith, h))
 dropped-within (n ∷ ns) [] h = absurd (omega (arith, h))
 
+-- as many elements are left
 capped-shape : (ns : List ℕ) (counts : List ℤ) → drop_shape ns (capped_counts ns counts) ≡ drop_shape ns counts
 capped-shape [] counts = refl
 capped-shape (n ∷ ns) [] = refl
@@ -151,14 +154,17 @@ capped-shape (n ∷ ns) (a ∷ counts) =
     let here : n - unsigned_abs (capped n a) ≡ n - unsigned_abs a = omega (arith, capped-abs n a) in
     ap (λ (k : ℕ). k ∷ drop_shape ns (capped_counts ns counts)) here ∙ ap (λ (ks : List ℕ). (n - unsigned_abs a) ∷ ks) (capped-shape ns counts)
 
+-- without the last ones each place stays
 dropped-back : (n m i : ℕ) → dropped n (neg_ℤ (pos m)) i ≡ i
 dropped-back n zero i = omega arith
 dropped-back n (suc m) i = refl
 
+-- the same place is read
 capped-place : (n : ℕ) (a : ℤ) (i : ℕ) → dropped n (capped n a) i ≡ dropped n a i
 capped-place n (pos a) i = omega arith
 capped-place n (negsuc a) i = dropped-back n (min (suc a) n) i
 
+-- and so for each axis
 capped-index : (ns : List ℕ) (counts : List ℤ) (is : List ℕ) → drop_index ns (capped_counts ns counts) is ≡ drop_index ns counts is
 capped-index [] counts is = refl
 capped-index (n ∷ ns) [] is = refl
@@ -167,7 +173,7 @@ capped-index (n ∷ ns) (a ∷ counts) (i ∷ is) =
     ap (λ (k : ℕ). k ∷ drop_index ns (capped_counts ns counts) is) (capped-place n a i) ∙ ap (λ (ks : List ℕ). dropped n a i ∷ ks) (capped-index ns counts is)
 
 pub dropped_is_selected : DroppedIsSelected
-dropped_is_selected a b (select.Skip given) h shape many e =
+dropped_is_selected a b (select.Skip given) h shape e =
     let ns : List ℕ = taken_shape a b in
     let c : Array = with_shape b ns in
     let ok : Array → Answer = λ x. Ok x in
@@ -175,12 +181,33 @@ dropped_is_selected a b (select.Skip given) h shape many e =
     let same : made (capped_counts ns a.cells) ≡ made a.cells =
     gathered-same (drop_shape ns (capped_counts ns a.cells)) (drop_shape ns a.cells) (drop_index ns (capped_counts ns a.cells)) (drop_index ns a.cells) c
     (capped-shape ns a.cells) (λ is q. capped-index ns a.cells is) in
-    let fits : CountsFit ns given.items = subst (CountsFit ns) (sym e) (capped-fit ns a.cells many) in (
+    let fits : CountsFit ns given.items = subst (CountsFit ns) (sym e) (capped-fit ns a.cells h.count) in (
       fits,
-      passes_if error.Rank (is_above_one a) _ (not-above_one a h.axes)
-          ∙ passes_if error.Length (not (count a == length ns)) _ (same-count a ns h.complete many)
-          ∙ passes_if error.Domain (is_text a) _ h.numbers
-          ∙ passes_limit (drop_shape ns a.cells) _ (shorter-shape (drop_shape ns a.cells) ns (dropped-within ns a.cells many) shape)
+      passes_if error.Rank (is_above_one a) _ (not-above_one a h.list.axes)
+          ∙ passes_if error.Length (not (count a == length ns)) _ (same-count a ns h.list.complete h.count)
+          ∙ passes_if error.Domain (is_text a) _ h.list.numbers
+          ∙ passes_limit (drop_shape ns a.cells) _ (shorter-shape (drop_shape ns a.cells) ns (dropped-within ns a.cells h.count) shape)
           ∙ ap ok (sym same) ∙ ap (λ (counts : List ℤ). ok (made counts)) (sym e),
     )
-dropped_is_selected a b other h shape many e = absurd e
+dropped_is_selected a b other h shape e = absurd e
+
+-- ---- where there is an answer
+
+-- three tests that are passed
+counts-named : (a b c : Array) (next : Answer) → IsComplete a →
+    error_if error.Rank (is_above_one a) (error_if error.Length (not (count a == length (taken_shape a b))) (error_if error.Domain (is_text a) next)) ≡ Ok c → ListsCounts a b
+counts-named a b c next h e =
+    let many : Bool = count a == length (taken_shape a b) in
+    let second : Answer = error_if error.Domain (is_text a) next in
+    let p = passed_if error.Rank (is_above_one a) (error_if error.Length (not many) second) c e in
+    let q = passed_if error.Length (not many) second c p.1 in
+    record {
+      list = record { axes = above_one-not a p.0; complete = h; numbers = (passed_if error.Domain (is_text a) next c q.1).0 };
+      count = h ∙ eqb-true (count a) (length (taken_shape a b)) (not-false many q.0);
+    }
+
+pub taken_has_counts : TakenHasCounts
+taken_has_counts a b c h e = counts-named a b c _ h e
+
+pub dropped_has_counts : DroppedHasCounts
+dropped_has_counts a b c h e = counts-named a b c _ h e

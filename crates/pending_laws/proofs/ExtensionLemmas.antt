@@ -29,6 +29,7 @@ place-only : (ns : List ℕ) → place_at ns (only_index ns) ≡ 0
 place-only [] = refl
 place-only (n ∷ ns) = omega (arith, place-only ns)
 
+-- so it is the first cell
 cell-only : (a : Array) → cell_at a (only_index a.shape) ≡ first a
 cell-only a = ap (λ (p : ℕ). slice_index_or a.cells p (pos 0)) (place-only a.shape)
 
@@ -53,10 +54,12 @@ extension_to_one_element a ns h one same =
 
 -- ---- operands over a shape
 
+-- an operand over a shape has the elements as the lift spreads them
 over-elements : (ns : List ℕ) (a c : Array) → IsComplete a → IsOver ns a c → elements c ≡ spread_to (size_of ns) a
 over-elements ns a c h (inl same) = ap elements same.1 ∙ sym (spread-whole a h) ∙ ap (λ (ks : List ℕ). spread_to (size_of ks) a) same.0
 over-elements ns a c h (inr other) = ap elements other.1 ∙ extension_is_spread a ns other.0
 
+-- and this shape
 over-shape : (ns : List ℕ) (a c : Array) → IsOver ns a c → c.shape ≡ ns
 over-shape ns a c (inl same) = ap (λ (x : Array). x.shape) same.1 ∙ same.0
 over-shape ns a c (inr other) = ap (λ (x : Array). x.shape) other.1
@@ -74,6 +77,7 @@ extended_join_is_the_lift f place a b c d ns h g fit left right =
 
 -- ---- outer products
 
+-- values at pairs that stand at the same places
 zip-maps : (f : Dya) (k j : Kind) (g h : ℕ → ℤ) (ps : List ℕ) →
     map (λ (p : Elem × Elem). scalar2 f p.0 p.1) (zip (map (element k) (map g ps)) (map (element j) (map h ps)))
     ≡ map (λ (p : ℕ). scalar2 f (element k (g p)) (element j (h p))) ps

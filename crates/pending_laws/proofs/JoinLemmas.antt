@@ -28,6 +28,7 @@ pointwise-same (n ∷ ns) = rw (eqb-same n n refl) (pointwise-same ns)
 pub fitting-same : (ns : List ℕ) → fitting_shape ns ns ≡ Ok ns
 fitting-same ns = ap (λ (t : Bool). shape_by t (size_of ns == 1) (size_of ns == 1) ns ns) (pointwise-same ns)
 
+-- an array of one cell
 only_element : (k : Kind) (cells : List ℤ) → length cells ≡ 1 → element k (slice_index_or cells 0 (pos 0)) ∷ [] ≡ map (element k) cells
 only_element k [] h = absurd (omega arith)
 only_element k (c ∷ []) h = refl
@@ -47,6 +48,7 @@ spread-whole a h = by (size_of a.shape == 1) refl
 abbrev pub paired : Dya → Array → Array → Option (List Elem)
 paired f a b = all_defined (map (λ (p : Elem × Elem). scalar2 f p.0 p.1) (zip (elements a) (elements b)))
 
+-- the lift of arrays of one shape is the values at these pairs
 pub lift-paired : (f : Dya) (a b : Array) → IsComplete a → IsComplete b → a.shape ≡ b.shape → lift2 f a b ≡ or_domain (paired f a b) (numbers b.shape)
 lift-paired f a b h g e =
     let left : spread_to (size_of b.shape) a ≡ elements a = ap (λ (ns : List ℕ). spread_to (size_of ns) a) (sym e) ∙ spread-whole a h in
@@ -62,6 +64,7 @@ pub meaning-or : (place : Place) (shape : List ℕ) (values : Option (List Elem)
 meaning-or place shape None = refl
 meaning-or place shape (Some es) = refl
 
+-- the only error of values is that one is undefined
 or_domain-error : (shape : List ℕ) (values : Option (List Elem)) (e : ErrorKind) → or_domain values (numbers shape) ≡ Err e → e ≡ error.Domain
 or_domain-error shape None e h = cc
 or_domain-error shape (Some es) e h = absurd cc

@@ -1,12 +1,18 @@
 -- Positions of a subscript, one after the other.
-use Rattle.std.proofs.Common.{◌≡◌, ◌==◌, ℕ, suc, ◌+◌, ◌*◌, ◌<◌, Bool, true, false, not, ◌&&◌, ◌||◌, ℤ, pos, ◌+ℤ◌, ◌-ℤ◌, unsigned_abs, List, [], ◌∷◌, ◌++◌, length, map, take, drop, Option, Some, None, Ok, refl, sym, ap, subst, ◌∙◌, arith}
+use Rattle.std.proofs.Common.{◌≡◌, ◌==◌, ℕ, zero, suc, ◌+◌, ◌*◌, ◌<◌, Bool, true, false, not, ◌&&◌, ◌||◌, ℤ, pos, ◌+ℤ◌, ◌-ℤ◌, unsigned_abs, List, [], ◌∷◌, ◌++◌, length, map, take, drop, Option, Some, None, Ok, refl, sym, ap, subst, ◌∙◌, arith, int_le, int_lt}
 use Rattle.std.specs.Prelude.{slice_index_or}
 use Rattle.std.specs.List.{AllByRecursion, list_any}
 use Rattle.std.proofs.lemmas.List.{take-append-drop}
+use Rattle.std.proofs.lemmas.Bool.{eqb-true}
+use Rattle.std.proofs.lemmas.Int.{ints}
+use Rattle.apl_base.specs.declared.cells.Kind.{Kind}
+use Rattle.apl_base.specs.declared.cells.Kind.TheVariants.{Num}
 use Rattle.apl_base.specs.declared.faults.ErrorKind.TheVariants as error
 use Rattle.apl_base.specs.Array.{Array, IsShape, IsIndex, size_of, place_at, cell_at}
+use Rattle.apl_base.specs.Elements.{gathered}
 use Rattle.apl_base.specs.Selection.{Position, whole, one, run, subscript_shape, subscript_index}
-use Rattle.apl_base.proofs.Booleans.{eqb-same, each-list_all}
+use Rattle.apl_base.proofs.Lists.{all_imp}
+use Rattle.apl_base.proofs.Booleans.{both_parts, neither_part, not-false, list_all-each, eqb-same, each-list_all}
 use Rattle.apl_base.proofs.Sizes.{IsIndex-length}
 use Rattle.beating.specs.declared.runs.Run.{Run}
 use Rattle.beating.specs.declared.selections.Item.{Item}
@@ -15,10 +21,51 @@ use Rattle.beating.specs.Runs.{run_value}
 use Rattle.beating.specs.Positions.{NamesPlace, OnAxis, IsItemOf}
 use Rattle.beating.specs.Positions as positions
 use Rattle.beating.specs.Selecting.{position_of}
-use Rattle.apl_model.specs.Whole.{Answer, rank}
+use Rattle.apl_model.specs.Whole.{Answer, rank, is_char, is_empty, is_text, first, error_if, within_limit}
 use Rattle.apl_model.specs.Subscript.{is_text_position, is_place, in_axis, in_axes, axes_of, positions_shape, place_of, positions_index}
-use Rattle.pending_laws.specs.Subscripts.{AreInProgression, IsItemAt, AreItems, SubscriptIsSelected}
-use Rattle.pending_laws.proofs.AnswerLemmas.{passes_if, passes_limit, le-test, lt-test, gathered-same}
+use Rattle.pending_laws.specs.Subscripts.{NamesPlaces, EachNamesPlaces, SubscriptHasPlaces, AreInProgression, lone_number, ScalarsAreInProgression, RunsAreInProgression, IsItemAt, AreItems, SubscriptIsSelected}
+use Rattle.pending_laws.proofs.AnswerLemmas.{passed_if, passes_if, passes_limit, le-test, lt-test, gathered-same}
+
+-- ---- what is in progression
+
+-- numbers are no text
+no_text : (p : Array) → p.kind ≡ Num → is_text p ≡ false
+no_text p e = ap (λ (k : Kind). is_char k && not (is_empty p)) e
+
+-- of a scalar there are none
+no_axis : (ns : List ℕ) → length ns ≡ 0 → ns ≡ []
+no_axis [] h = refl
+no_axis (n ∷ ns) h = absurd (omega (arith, h))
+
+-- lengths of one axis are the size
+one_axis : (ns : List ℕ) (m : ℕ) → length ns ≡ 1 → m ≡ size_of ns → ns ≡ m ∷ []
+one_axis [] m h e = absurd (omega (arith, h))
+one_axis (n ∷ []) m h e = let same : n ≡ m = omega (arith, e) in ap (λ (k : ℕ). k ∷ []) same
+one_axis (n ∷ k ∷ ns) m h e = absurd (omega (arith, h))
+
+-- the one number is that of the run
+lone-each : (cells : List ℤ) (z : ℤ) → length cells ≡ 1 → slice_index_or cells 0 (pos 0) ≡ z → (j : ℕ) → j < length cells → slice_index_or cells j (pos 0) ≡ run_value (lone_number z) j
+lone-each cells z h e zero below = e ∙ omega (arith, ints)
+lone-each cells z h e (suc j) below = absurd (omega (arith, below, h))
+
+pub scalars_are_in_progression : ScalarsAreInProgression
+scalars_are_in_progression p kind h r =
+    let none : p.shape ≡ [] = no_axis p.shape r in
+    let count : length p.cells ≡ 1 = h ∙ ap size_of none in
+    record {
+      numbers = no_text p kind;
+      run = record { count = sym count; each = lone-each p.cells (first p) count refl; step = λ _. refl; from = λ e. absurd (omega (arith, e, count)) };
+      shape = none;
+      complete = h;
+    }
+
+pub runs_are_in_progression : RunsAreInProgression
+runs_are_in_progression p r kind h axes are = record {
+  numbers = no_text p kind;
+  run = are;
+  shape = one_axis p.shape r.n axes (are.count ∙ h);
+  complete = h;
+}
 
 -- ---- one position
 
@@ -30,10 +77,12 @@ by_places P (x ∷ xs) h = (h 0 (omega arith), by_places P xs (λ j below. h (su
 named : (o : ℤ) (n : ℕ) (v : ℤ) → NamesPlace o n v → is_place o n v ≡ true
 named o n v h = rw (le-test o v h.0, lt-test v (o +ℤ pos n) h.1) refl
 
+-- no position is characters
 item-number : (o : ℤ) (n : ℕ) (p : Option Array) (kept : Item) → IsItemAt o n p kept → is_text_position p ≡ false
 item-number o n None kept h = refl
 item-number o n (Some p) kept h = h.progression.numbers
 
+-- each value is on the axis
 item-axis : (o : ℤ) (n : ℕ) (p : Option Array) (kept : Item) → IsItemAt o n p kept → in_axis o n p ≡ true
 item-axis o n None kept h = refl
 item-axis o n (Some p) kept h =
@@ -43,6 +92,7 @@ item-axis o n (Some p) kept h =
     let on : j < r.n = omega (arith, below, h.progression.run.count) in
     ap (is_place o n) here ∙ named o n (run_value r j) (h.on_axis j on)))
 
+-- an item gives the axes of its position
 item-shape : (o : ℤ) (n : ℕ) (p : Option Array) (kept : Item) → IsItemAt o n p kept → subscript_shape (position_of kept ∷ []) (n ∷ []) ≡ axes_of n p
 item-shape o n None kept h = ap (λ (i : Item). subscript_shape (position_of i ∷ []) (n ∷ [])) h
 item-shape o n (Some p) kept h = h.places.shape ∙ sym h.progression.shape
@@ -56,6 +106,7 @@ progression-cell p r is_scalar j h below e =
     ∙ ap (λ (k : ℕ). slice_index_or p.cells k (pos 0)) e
     ∙ h.run.each j (omega (arith, below, h.run.count))
 
+-- an item of a progression reads the place that the cell at the index names
 kept-index : (o : ℤ) (n : ℕ) (p : Array) (kept : Item) (r : Run) (is_scalar : Bool) (is : List ℕ) → AreInProgression p r is_scalar → IsItemOf o n r is_scalar kept →
     IsIndex (positions.positions_shape is_scalar r.n) is → subscript_index (position_of kept ∷ []) is ≡ unsigned_abs (cell_at p is -ℤ o) ∷ []
 kept-index o n p kept r true [] h i q =
@@ -69,6 +120,7 @@ kept-index o n p kept r false (j ∷ []) h i q =
 kept-index o n p kept r false [] h i q = absurd q
 kept-index o n p kept r false (j ∷ k ∷ is) h i q = absurd q.1
 
+-- and so does every item
 item-index : (o : ℤ) (n : ℕ) (p : Option Array) (kept : Item) (is : List ℕ) → IsItemAt o n p kept → IsIndex (axes_of n p) is →
     subscript_index (position_of kept ∷ []) is ≡ place_of o p is
 item-index o n None kept (i ∷ []) h q = ap (λ (k : Item). subscript_index (position_of k ∷ []) (i ∷ [])) h
@@ -79,11 +131,13 @@ item-index o n (Some p) kept is h q =
 
 -- ---- one position, and then the others
 
+-- the axes of the first item stand first
 shape-step : (q : Position) (qs : List Position) (n : ℕ) (ns : List ℕ) → subscript_shape (q ∷ qs) (n ∷ ns) ≡ subscript_shape (q ∷ []) (n ∷ []) ++ subscript_shape qs ns
 shape-step whole qs n ns = refl
 shape-step (one p) qs n ns = refl
 shape-step (run from step count) qs n ns = refl
 
+-- and its numbers in the index
 index-step : (q : Position) (qs : List Position) (n : ℕ) (js ks : List ℕ) → length js ≡ length (subscript_shape (q ∷ []) (n ∷ [])) →
     subscript_index (q ∷ qs) (js ++ ks) ≡ subscript_index (q ∷ []) js ++ subscript_index qs ks
 index-step whole qs n [] ks h = absurd (omega (arith, h))
@@ -103,6 +157,7 @@ parts (m ∷ ms) ns [] h = absurd h
 
 -- ---- all positions
 
+-- a position for each axis
 items-count : (o : ℤ) (ns : List ℕ) (ps : List (Option Array)) (items : List Item) → AreItems o ns ps items → length ps ≡ length ns
 items-count o [] [] [] h = refl
 items-count o (n ∷ ns) (p ∷ ps) (i ∷ items) h = ap suc (items-count o ns ps items h.1)
@@ -111,6 +166,7 @@ items-count o [] (p ∷ ps) items h = absurd h
 items-count o (n ∷ ns) [] items h = absurd h
 items-count o (n ∷ ns) (p ∷ ps) [] h = absurd h
 
+-- no position is characters, and all lie in their axes
 items-tests : (o : ℤ) (ns : List ℕ) (ps : List (Option Array)) (items : List Item) → AreItems o ns ps items →
     (list_any is_text_position ps ≡ false) × (in_axes o ns ps ≡ true)
 items-tests o [] [] [] h = (refl, refl)
@@ -124,6 +180,7 @@ items-tests o [] (p ∷ ps) items h = absurd h
 items-tests o (n ∷ ns) [] items h = absurd h
 items-tests o (n ∷ ns) (p ∷ ps) [] h = absurd h
 
+-- the same axes
 items-shape : (o : ℤ) (ns : List ℕ) (ps : List (Option Array)) (items : List Item) → AreItems o ns ps items → subscript_shape (map position_of items) ns ≡ positions_shape ns ps
 items-shape o [] [] [] h = refl
 items-shape o (n ∷ ns) (p ∷ ps) (i ∷ items) h =
@@ -135,6 +192,7 @@ items-shape o [] (p ∷ ps) items h = absurd h
 items-shape o (n ∷ ns) [] items h = absurd h
 items-shape o (n ∷ ns) (p ∷ ps) [] h = absurd h
 
+-- the same index is read
 items-index : (o : ℤ) (ns : List ℕ) (ps : List (Option Array)) (items : List Item) (is : List ℕ) → AreItems o ns ps items → IsIndex (positions_shape ns ps) is →
     subscript_index (map position_of items) is ≡ positions_index o ns ps is
 items-index o [] [] [] is h q = refl
@@ -166,3 +224,32 @@ subscript_is_selected o a ps (select.Index given) h fits =
     ∙ ap ok (sym (gathered-same (subscript_shape qs a.shape) (positions_shape a.shape ps) (subscript_index qs) (positions_index o a.shape ps) a shape
     (λ is q. items-index o a.shape ps given.items is h q)))
 subscript_is_selected o a ps other h fits = absurd h
+
+-- ---- where there is an answer
+
+place-named : (o : ℤ) (n : ℕ) (v : ℤ) → is_place o n v ≡ true → NamesPlace o n v
+place-named o n v h = let s = both_parts (int_le o v) (int_lt v (o +ℤ pos n)) h in (omega (arith, ints, s.0), omega (arith, ints, s.1))
+
+places-named : (o : ℤ) (n : ℕ) (p : Option Array) → is_text_position p ≡ false → in_axis o n p ≡ true → NamesPlaces o n p
+places-named o n None t h = tt
+places-named o n (Some p) t h = (t, all_imp (λ v. is_place o n v ≡ true) (NamesPlace o n) p.cells (place-named o n) (list_all-each (is_place o n) p.cells h))
+
+each-named : (o : ℤ) (ns : List ℕ) (ps : List (Option Array)) → length ps ≡ length ns → list_any is_text_position ps ≡ false → in_axes o ns ps ≡ true → EachNamesPlaces o ns ps
+each-named o [] [] l t h = tt
+each-named o (n ∷ ns) (p ∷ ps) l t h =
+    let x = neither_part (is_text_position p) (list_any is_text_position ps) t in
+    let y = both_parts (in_axis o n p) (in_axes o ns ps) h in
+    (places-named o n p x.0 y.0, each-named o ns ps (omega (arith, l)) x.1 y.1)
+each-named o [] (p ∷ ps) l t h = absurd (omega (arith, l))
+each-named o (n ∷ ns) [] l t h = absurd (omega (arith, l))
+
+pub subscript_has_places : SubscriptHasPlaces
+subscript_has_places o a c ps h =
+    let many : Bool = length ps == rank a in
+    let last : Answer = within_limit (positions_shape a.shape ps) (λ _. Ok (gathered (positions_shape a.shape ps) (positions_index o a.shape ps) a)) in
+    let third : Answer = error_if error.Index (not (in_axes o a.shape ps)) last in
+    let second : Answer = error_if error.Domain (list_any is_text_position ps) third in
+    let p = passed_if error.Rank (not many) second c h in
+    let q = passed_if error.Domain (list_any is_text_position ps) third c p.1 in
+    let r = passed_if error.Index (not (in_axes o a.shape ps)) last c q.1 in
+    each-named o a.shape ps (eqb-true (length ps) (rank a) (not-false many p.0)) q.0 (not-false (in_axes o a.shape ps) r.0)

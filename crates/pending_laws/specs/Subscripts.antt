@@ -1,5 +1,7 @@
 -- Subscripts whose positions are left out, scalars or progressions are selections of an array.
-use Rattle.std.specs.Prelude.{◌≡◌, ℕ, ℤ, Bool, false, List, [], ◌∷◌, Option, Some, None, Ok}
+use Rattle.std.specs.Prelude.{◌≡◌, ℕ, ℤ, pos, Bool, true, false, List, [], ◌∷◌, Option, Some, None, Ok}
+use Rattle.std.specs.List.{AllByRecursion}
+use Rattle.apl_base.specs.declared.cells.Kind.TheVariants.{Num}
 use Rattle.apl_base.specs.Array.{Array}
 use Rattle.beating.specs.declared.runs.Run.{Run}
 use Rattle.beating.specs.declared.selections.Item.{Item}
@@ -7,9 +9,9 @@ use Rattle.beating.specs.declared.selections.Item.TheVariants as item
 use Rattle.beating.specs.declared.selections.Selection.{Selection}
 use Rattle.beating.specs.declared.selections.Selection.TheVariants as select
 use Rattle.beating.specs.Runs.{IsRunOf}
-use Rattle.beating.specs.Positions.{OnAxis, positions_shape, IsItemOf}
+use Rattle.beating.specs.Positions.{NamesPlace, OnAxis, positions_shape, IsItemOf}
 use Rattle.beating.specs.Selecting.{Fits, selected}
-use Rattle.apl_model.specs.Whole.{is_text}
+use Rattle.apl_model.specs.Whole.{rank, is_text, first}
 use Rattle.apl_model.specs.Subscript.{subscript}
 use Rattle.pending_laws.specs.Joins.{IsComplete}
 
@@ -19,6 +21,21 @@ pub record AreInProgression (p : Array) (r : Run) (is_scalar : Bool) : Type 0 wh
   pub run : IsRunOf p.cells r
   pub shape : p.shape ≡ positions_shape is_scalar r.n
   pub complete : IsComplete p
+
+-- the one number of a scalar, as a progression
+abbrev pub lone_number : ℤ → Run
+lone_number z = record { from = z; step = pos 0; n = 1 }
+
+-- a scalar that is a number is in progression
+abbrev pub ScalarsAreInProgression : Type 0
+ScalarsAreInProgression =
+    (p : Array) → p.kind ≡ Num → IsComplete p → rank p ≡ 0 → AreInProgression p (lone_number (first p)) true
+
+-- and so are numbers of one axis that are a run
+abbrev pub RunsAreInProgression : Type 0
+RunsAreInProgression =
+    (p : Array) (r : Run) → p.kind ≡ Num → IsComplete p → rank p ≡ 1 → IsRunOf p.cells r
+    → AreInProgression p r false
 
 -- the item is what such a position keeps of an axis of n elements
 pub record KeepsPositions (o : ℤ) (n : ℕ) (p : Array) (kept : Item) : Type 0 where
@@ -49,3 +66,20 @@ abbrev pub SubscriptIsSelected : Type 0
 SubscriptIsSelected =
     (o : ℤ) (a : Array) (ps : List (Option Array)) (by : Selection) → KeepsItems o a.shape ps by → Fits by a.shape
     → subscript o a ps ≡ Ok (selected by a)
+
+-- each value of a position names a place of its axis
+abbrev pub NamesPlaces : ℤ → ℕ → Option Array → Type 0
+NamesPlaces o n None = Unit {0}
+NamesPlaces o n (Some p) = (is_text p ≡ false) × AllByRecursion (NamesPlace o n) p.cells
+
+-- and so for each axis, each of which has a position
+abbrev pub EachNamesPlaces : ℤ → List ℕ → List (Option Array) → Type 0
+EachNamesPlaces o [] [] = Unit {0}
+EachNamesPlaces o (n ∷ ns) (p ∷ ps) = NamesPlaces o n p × EachNamesPlaces o ns ps
+EachNamesPlaces o ns ps = ⊥
+
+-- where there is an answer, the positions name places
+abbrev pub SubscriptHasPlaces : Type 0
+SubscriptHasPlaces =
+    (o : ℤ) (a c : Array) (ps : List (Option Array)) → subscript o a ps ≡ Ok c
+    → EachNamesPlaces o a.shape ps
