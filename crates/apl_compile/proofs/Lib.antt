@@ -1,4 +1,5 @@
 pub mod CodeLemmas
+pub mod CodedLemmas
 pub mod Emitting
 pub mod LawfulLemmas
 pub mod ProgramLemmas

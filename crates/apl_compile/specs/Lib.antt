@@ -1,4 +1,5 @@
 pub mod Code
+pub mod Examples
 pub mod Execution
 pub mod Lawful
 pub mod Laws

@@ -10,7 +10,7 @@ use Rattle.apl_model.specs.declared.outlines.OutlineBody.{OutlineBody}
 use Rattle.apl_model.specs.declared.outlines.OutlineItem.{OutlineItem}
 use Rattle.apl_model.specs.declared.outlines.OutlineItem.TheVariants as outline
 use Rattle.apl_model.specs.declared.outlines.OutlineLine.{OutlineLine}
-use Rattle.apl_model.specs.Call.{Routine, RoutineLine, Steps, calls_of}
+use Rattle.apl_model.specs.Call.{Routine, RoutineLine, States, calls_of}
 use Rattle.apl_model.specs.Immediate.{Run, Step, statement_step, command_step, run_steps, well, prefix_or}
 use Rattle.apl_model.specs.Order.{CallsOf, Values}
 use Rattle.apl_model.specs.Outcome.{Outcome, Flow}
@@ -76,7 +76,7 @@ report_in o kind place = report_text kind (prefix_from place.line o.items) (line
 
 -- ---- the run
 
-module _ {S V : Type 0} (M : Steps S V) (values : CallsOf S V → Values S V) where
+module _ {S V : Type 0} (M : States S V) (values : CallsOf S V → Values S V) where
   -- what a code means, where this is what calls mean
   abbrev pub code_meaning : CallsOf S V → Code → S → Outcome S Flow
   code_meaning calls code s = code_flow (values calls) code.instructions s

@@ -3,6 +3,7 @@
 
 mod codes;
 mod compiler;
+mod examples;
 mod expressions;
 mod laws;
 mod programs;
@@ -11,6 +12,9 @@ mod tables;
 
 pub use codes::{Code, Instruction, Op};
 pub use compiler::compile;
-pub use laws::{codes_are_lawful, codes_do, immediate_is_run, one_report, programs_do};
+pub use examples::examples_of_code;
+pub use laws::{
+    codes_are_lawful, codes_do, immediate_is_run, one_report, programs_are_coded, programs_do,
+};
 pub use programs::{Function, Program};
 pub use scripts::compile_script;

@@ -7,16 +7,16 @@ use Rattle.std.proofs.lemmas.List.{take_more, take_all}
 use lib.Pointwise.{bytes_decides}
 use Rattle.apl_base.specs.declared.faults.Refusal.{Refusal}
 use Rattle.apl_model.proofs.Accepted.{among_here, among_there, among_cases, among_none}
-use Rattle.apl_model.proofs.Rows.{before_after}
+use Rattle.apl_model.proofs.AcceptedItems.{more_heads}
+use Rattle.apl_model.proofs.Rows.{before_after, alone_defined}
 use Rattle.apl_model.proofs.Unique.{one_header}
 use Rattle.apl_model.specs.Environment.{is_same_name}
 use Rattle.apl_model.specs.Grammar.{arguments_of}
-use Rattle.apl_model.specs.Refusal.{outside, in_body, StopsAt, HasStatements, IsHeaderRefusal, no_header, lone, nested, IsOpenDefinition, never_closed, IsDefined, Heads, IsDoubleName, second_heading, second_occurrence, IsNameClass, assigned, erased, declared, IsDeep, opened, AreClasses, IsGrammarRefusal, outside_definitions, in_a_body, IsLineRefusal, header, double_name, open_definition, name_class, deep, grammar}
+use Rattle.apl_model.specs.Refusal.{outside, in_body, StopsAt, HasStatements, IsHeaderRefusal, no_header, lone, nested, IsOpenDefinition, never_closed, IsDefined, Heads, IsDoubleName, second_heading, second_occurrence, IsNameClass, assigned, erased, declared, IsDeep, opened, AreClasses, IsGrammarRefusal, outside_definitions, in_a_body, IsLineRefusal, header, double_name, open_definition, name_class, deep, grammar, IsFirstIfAny}
 use Rattle.apl_model.specs.Script.{Part, alone, defined, parts, heading_of, IsHeadOf}
 use Rattle.apl_model.specs.declared.scripts.Header.{Header}
 use Rattle.apl_model.specs.declared.tokens.Heading.{Heading}
 use Rattle.apl_model.specs.declared.tokens.Line.{Line}
-use Rattle.apl_read.specs.Refusals.{IsFirstIfAny}
 use Rattle.apl_defn.proofs.EarlierLemmas.{first_like, earlier_first}
 use Rattle.apl_defn.specs.Earliest.{earlier}
 use Rattle.apl_defn.specs.NameRules.{IsAssigned, IsTooDeep, IsHeading}
@@ -121,9 +121,6 @@ one_classes (defined top body last ∷ ps) (h ∷ hs) (k ∷ ks) c d =
     let g = one_classes ps hs ks c.1 d.1 in
     λ i. f i ∷ g i
 
-defined_alone : {A : Type 0} (top : Line) (body : List Line) (last : Option Line) (l : Line) → defined top body last ≡ alone l → A
-defined_alone top body last l e = cc
-
 -- with one heading more, a name that headed still heads
 still_some : (b : Bool) (k : ℕ) (o : Option ℕ) → IsSome o → IsSome (if b then Some k else o)
 still_some true k o h = refl
@@ -133,7 +130,7 @@ still_some false k o h = h
 pub heads_known : (ps : List Part) (hs : List Heading) (n : List ℕ) → AreClasses ps hs → Heads ps n → IsHeading hs n
 heads_known [] hs n c h = absurd (among_none (defined h.first h.body h.is_defined.last) h.is_defined.among)
 heads_known (alone l ∷ ps) hs n c h = elim (among_cases ps (alone l) (defined h.first h.body h.is_defined.last) h.is_defined.among) [
-  | inl e ↦ defined_alone h.first h.body h.is_defined.last l e
+  | inl e ↦ alone_defined h.first h.body h.is_defined.last l e
   | inr k ↦ heads_known ps hs n c (record { first = h.first; body = h.body; header = h.header; is_defined = record { last = h.is_defined.last; among = k; head = h.is_defined.head }; same = h.same })
 ]
 heads_known (defined top body last ∷ ps) [] n c h = absurd c
@@ -150,15 +147,6 @@ heads_known (defined top body last ∷ ps) (k ∷ hs) n c h =
       | inr m ↦ still_some (is_same_name k.name n) k.arguments (arguments_of hs n)
           (heads_known ps hs n c.1 (record { first = h.first; body = h.body; header = h.header; is_defined = record { last = d.last; among = m; head = d.head }; same = h.same }))
     ]
-
-more_heads : (p : Part) (ps : List Part) (n : List ℕ) → Heads ps n → Heads (p ∷ ps) n
-more_heads p ps n h = record {
-  first = h.first;
-  body = h.body;
-  header = h.header;
-  is_defined = record { last = h.is_defined.last; among = among_there ps p (defined h.first h.body h.is_defined.last) h.is_defined.among; head = h.is_defined.head };
-  same = h.same;
-}
 
 -- and a heading's name heads one of the parts
 pub heading_known : (ps : List Part) (hs : List Heading) (n : List ℕ) → AreClasses ps hs → IsHeading hs n → Heads ps n
@@ -242,7 +230,7 @@ module _ (ls : List Line) where
     use_refuses : (p : Part) (r : Refusal) → IsAmong (parts ls) p → IsUseRefusal hs p r → IsLineRefusal ls r
     use_refuses (alone l) r m (inl h) = assigned_is l r (inl m) h
     use_refuses (alone l) r m (inr (inl h)) =
-        name_class (erased l h.before h.after h.close h.command h.name_token h.name m h.split h.closes h.erases h.named (heading_known (parts ls) hs h.name classes h.heads) h.is)
+        name_class (erased l h.here m h.among (heading_known (parts ls) hs h.here.name classes h.heads) h.is)
     use_refuses (alone l) r m (inr (inr (inl h))) = too_deep_is l r (inl m) h
     use_refuses (alone l) r m (inr (inr (inr h))) = grammar (outside_definitions l hs h.column classes m h.stops h.is)
     use_refuses (defined top body last) r m (inl h) =
@@ -293,24 +281,8 @@ module _ (ls : List Line) where
         }),
       ),
     )
-    class_use r (erased l before after t u v n m e f g s j q) = (
-      alone l,
-      m,
-      inr (inl (record {
-        close = t;
-        command = u;
-        before = before;
-        after = after;
-        name_token = v;
-        name = n;
-        split = e;
-        closes = f;
-        erases = g;
-        named = s;
-        heads = heads_known (parts ls) hs n classes j;
-        is = q;
-      })),
-    )
+    class_use r (erased l o m e j q) =
+        (alone l, m, inr (inl (record { here = o; among = e; heads = heads_known (parts ls) hs o.name classes j; is = q })))
     class_use r (declared top body h o d m n j q) = (
       defined top body d.last,
       d.among,

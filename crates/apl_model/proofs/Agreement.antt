@@ -4,8 +4,8 @@ use Rattle.std.proofs.Common.{◌≡◌, ℕ, zero, suc, ℤ, pos, negsuc, List,
 use Rattle.std.specs.Option.{option_map}
 use Rattle.apl_base.specs.declared.faults.ErrorKind.{ErrorKind}
 use Rattle.apl_base.specs.declared.faults.Place.{Place}
-use Rattle.apl_model.specs.Agreement.{mapped_outcome, mapped_flow, CallsAgree, ValuesAgree, ExpressionsAgree, PositionsAgree, StatementsAgree, mapped_line, mapped_routine, mapped_step, mapped_run, StepsAgree, MeaningsAgree, FunctionsAgree, RunsAgree, IsTranslation, TranslatedFunctionsAgree, TranslatedRunsAgree, RunsOverValuesAgree}
-use Rattle.apl_model.specs.Call.{Routine, RoutineLine, labels_of, Steps, entered, turn, on_turn, line_at, next_line, run_line, run_lines, run_routine, run_found, routine_of, call_within, calls_of}
+use Rattle.apl_model.specs.Agreement.{mapped_outcome, mapped_flow, CallsAgree, ValuesAgree, ExpressionsAgree, PositionsAgree, StatementsAgree, mapped_line, mapped_routine, mapped_step, mapped_run, StatesAgree, MeaningsAgree, FunctionsAgree, RunsAgree, IsTranslation, TranslatedFunctionsAgree, TranslatedRunsAgree, RunsOverValuesAgree}
+use Rattle.apl_model.specs.Call.{Routine, RoutineLine, labels_of, States, entered, turn, on_turn, line_at, next_line, run_line, run_lines, run_routine, run_found, routine_of, call_within, calls_of}
 use Rattle.apl_model.specs.Environment.{is_same_name}
 use Rattle.apl_model.specs.Immediate.{Ending, reported, out_of_turns, Run, Step, statement_step, command_step, after_statement, run_steps}
 use Rattle.apl_model.specs.Order.{CallsOf, Values, value_in, argument_in, positions_in, show_value, silently, expression_in, flow_in}
@@ -138,7 +138,7 @@ same_flow flow = flow
 abbrev same_end : Unit {0} → Unit {0}
 same_end u = u
 
-module _ {S T V W : Type 0} (state : S → T) (value : V → W) (M : Steps S V) (N : Steps T W) (h : StepsAgree state value M N) where
+module _ {S T V W : Type 0} (state : S → T) (value : V → W) (M : States S V) (N : States T W) (h : StatesAgree state value M N) where
   -- a statement that ended
   entered-mapped : {A B : Type 0} (f : A → B) (line number : ℕ) (o : Outcome S A) → entered N line number (mapped_outcome state f o) ≡ mapped_outcome state f (entered M line number o)
   entered-mapped f line number (done a s) = ap (λ t. done (f a) t) (h.end line number s)
@@ -161,9 +161,9 @@ module _ {S T V W : Type 0} (state : S → T) (value : V → W) (M : Steps S V) 
   on_turn-agrees f line act' act a s =
       record { is = ap (λ n. turn N line n act' (state s)) (h.turns s) ∙ (turn-agrees f line act' act a (M.turns s) s).is }
 
-module _ {S T V W P Q : Type 0} (state : S → T) (value : V → W) (statement : P → Q) (M : Steps S V) (N : Steps T W)
+module _ {S T V W P Q : Type 0} (state : S → T) (value : V → W) (statement : P → Q) (M : States S V) (N : States T W)
     (meaning : CallsOf S V → P → S → Outcome S Flow) (other : CallsOf T W → Q → T → Outcome T Flow)
-    (h : StepsAgree state value M N) (m : MeaningsAgree state value statement meaning other) where
+    (h : StatesAgree state value M N) (m : MeaningsAgree state value statement meaning other) where
   module _ (calls : CallsOf S V) (others : CallsOf T W) (c : CallsAgree state value calls others) where
     -- a line of a body, and what follows it
     line-agrees : (l : Option (RoutineLine P)) (s : S) (next' : Flow → T → Outcome T (Unit {0})) (next : Flow → S → Outcome S (Unit {0})) →
@@ -223,7 +223,7 @@ module _ {S T V W P Q : Type 0} (state : S → T) (value : V → W) (statement :
             ∙ (found-agrees (call_within M meaning routines n) others (calls-agree routines n) (routine_of routines f) place left right s).is;
       }
 
-module _ {S T V W P Q : Type 0} (state : S → T) (value : V → W) (statement : P → Q) (M : Steps S V) (N : Steps T W) (h : StepsAgree state value M N)
+module _ {S T V W P Q : Type 0} (state : S → T) (value : V → W) (statement : P → Q) (M : States S V) (N : States T W) (h : StatesAgree state value M N)
     (flow_of : P → S → Outcome S Flow) (other : Q → T → Outcome T Flow) (m : (p : P) (s : S) → other (statement p) (state s) ≡ mapped_flow state (flow_of p s))
     (functions : List (List ℕ)) (report_of : ErrorKind → Place → List ℕ) where
   -- what follows a statement
@@ -309,8 +309,8 @@ calls-same : {S V : Type 0} (calls others : CallsOf S V) → CallsAgree (λ s. s
 calls-same calls others c = λ i f place left right s. call-same calls others c f place left right s i
 
 -- what turns, calls and commands do agrees with itself
-steps-same : {S V : Type 0} (M : Steps S V) → StepsAgree (λ s. s) (λ v. v) M M
-steps-same M = record {
+states-same : {S V : Type 0} (M : States S V) → StatesAgree (λ s. s) (λ v. v) M M
+states-same M = record {
   turns = λ s. refl;
   begun = λ s. refl;
   begin = λ left s. refl;
@@ -335,11 +335,11 @@ module _ {S V P Q : Type 0} (statement : P → Q) (meaning : CallsOf S V → P �
 pub translated_functions_agree : (S V P Q : Type 0) → TranslatedFunctionsAgree S V P Q
 translated_functions_agree S V P Q statement M meaning other t routines n f place left right s =
     call-same (call_within M meaning routines n) (call_within M other (map (mapped_routine statement) routines) n)
-    (functions_agree S S V V P Q (λ s. s) (λ v. v) statement M M meaning other (steps-same M) (translation-agrees statement meaning other t) routines n) f place left right s
+    (functions_agree S S V V P Q (λ s. s) (λ v. v) statement M M meaning other (states-same M) (translation-agrees statement meaning other t) routines n) f place left right s
 
 pub translated_runs_agree : (S V P Q : Type 0) → TranslatedRunsAgree S V P Q
 translated_runs_agree S V P Q statement M meaning other t routines functions report_of steps ending s =
-    runs_agree S S V V P Q (λ s. s) (λ v. v) statement M M meaning other (steps-same M) (translation-agrees statement meaning other t) routines functions report_of steps ending s
+    runs_agree S S V V P Q (λ s. s) (λ v. v) statement M M meaning other (states-same M) (translation-agrees statement meaning other t) routines functions report_of steps ending s
 
 -- ---- where only the values differ
 

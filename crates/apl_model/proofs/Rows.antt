@@ -46,7 +46,8 @@ not_after_itself (x ∷ xs) = inr (refl, not_after_itself xs)
 pub as_first : (r o : Refusal) → o ≡ r → IsNotAfter (order r) (order o)
 as_first r o e = subst (λ v. IsNotAfter (order r) (order v)) (sym e) (not_after_itself (order r))
 
-phase_is : (r : Refusal) (c : Cause) (l k : ℕ) → r ≡ refusal c l k → phase r.cause ≡ phase c
+-- a refusal comes in the phase of its cause
+pub phase_is : (r : Refusal) (c : Cause) (l k : ℕ) → r ≡ refusal c l k → phase r.cause ≡ phase c
 phase_is r c l k e = ap (λ (v : Refusal). phase v.cause) e
 
 late : (r : Refusal) (n : ℕ) → 2 ≤ n → phase r.cause ≡ n → 2 ≤ phase r.cause
@@ -61,7 +62,7 @@ line_phase ls r (double_name (second_heading a b c d f g h i j k l e)) = late r 
 line_phase ls r (double_name (second_occurrence a b c d f g h i j k l e)) = late r 2 (omega arith) (phase_is r cause.DoubleName _ _ e)
 line_phase ls r (open_definition (never_closed a b c d f g e)) = late r 2 (omega arith) (phase_is r cause.OpenDefinition _ _ e)
 line_phase ls r (name_class (assigned a b c d f g h i j k l e)) = late r 3 (omega arith) (phase_is r cause.NameClass _ _ e)
-line_phase ls r (name_class (erased a b c d f g h i j k l m n e)) = late r 3 (omega arith) (phase_is r cause.NameClass _ _ e)
+line_phase ls r (name_class (erased a b c d f e)) = late r 3 (omega arith) (phase_is r cause.NameClass _ _ e)
 line_phase ls r (name_class (declared a b c d f g h i e)) = late r 3 (omega arith) (phase_is r cause.NameClass _ _ e)
 line_phase ls r (deep (opened a b c d e)) = late r 3 (omega arith) (phase_is r cause.Deep _ _ e)
 line_phase ls r (grammar (outside_definitions a b c d f g e)) = late r 3 (omega arith) (phase_is r cause.Grammar _ _ e)
@@ -156,7 +157,8 @@ module _ (kind : LineKind) (hs : List Heading) (n : ℕ) where
 alone_same : (l m : Line) → alone l ≡ alone m → l ≡ m
 alone_same l m e = cc
 
-alone_defined : {A : Type 0} (top : Line) (body : List Line) (last : Option Line) (l : Line) → defined top body last ≡ alone l → A
+-- a definition is no line by itself
+pub alone_defined : {A : Type 0} (top : Line) (body : List Line) (last : Option Line) (l : Line) → defined top body last ≡ alone l → A
 alone_defined top body last l e = cc
 
 true_false : {A : Type 0} {b : Bool} → b ≡ true → b ≡ false → A
@@ -198,7 +200,7 @@ module _ (ls : List Line) (l : Line) (only : parts ls ≡ alone l ∷ []) where
       go o (double_name (second_occurrence top body k before after p q i e j f s)) = no_definition top body i.last i.among
       go o (open_definition (never_closed top body t ts m f e)) = no_definition top body None m
       go o (name_class (assigned m before after t u n i e f s j q)) = heads_none n j
-      go o (name_class (erased m before after t u v n i e f s j k q)) = heads_none n k
+      go o (name_class (erased m p i q j e)) = heads_none p.name j
       go o (name_class (declared top body k p i j q s e)) = heads_none p.name s
       go o (deep (opened m t (inl x) f e)) =
           let s = alone_same m l (only_alone (alone m) x) in

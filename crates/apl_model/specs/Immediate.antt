@@ -8,7 +8,7 @@ use Rattle.apl_base.specs.Array.{Array}
 use Rattle.apl_model.specs.declared.scripts.Command.{Command}
 use Rattle.apl_model.specs.declared.scripts.Command.TheVariants.{Vars, Fns, Erase, Origin}
 use Rattle.apl_model.specs.declared.tokens.Line.{Line}
-use Rattle.apl_model.specs.Call.{Routine, RoutineLine, Steps, calls_of, on_turn}
+use Rattle.apl_model.specs.Call.{Routine, RoutineLine, States, calls_of, on_turn}
 use Rattle.apl_model.specs.Environment.{Bindings, no_variables, set_names, erased, without_frames, with_origin}
 use Rattle.apl_model.specs.Evaluation.{State, Ended, statement_flow, with_printed, with_variables}
 use Rattle.apl_model.specs.Frames.{with_turn, with_ended, with_call, without_call, result_in}
@@ -107,8 +107,8 @@ pub record Run (S : Type 0) : Type 0 where
   pub ending : Ending
   pub state : S
 
-module _ {S V T : Type 0} (M : Steps S V) (flow_of : T → S → Outcome S Flow) (functions : List (List ℕ)) (report_of : ErrorKind → Place → List ℕ) where
-  -- after a statement: an error prints its report, and the script goes on; a spent budget ends it
+module _ {S V T : Type 0} (M : States S V) (flow_of : T → S → Outcome S Flow) (functions : List (List ℕ)) (report_of : ErrorKind → Place → List ℕ) where
+  -- after a statement: an error prints its report, and the script goes on; a spent budget ends it. Both end all calls
   abbrev pub after_statement : {A : Type 0} → Ending → Outcome S A → (Ending → S → Run S) → Run S
   after_statement ending (done a s) next = next ending s
   after_statement ending (fails kind place s) next = next reported (M.tell (report_of kind place) (M.unwind s))
@@ -135,7 +135,7 @@ abbrev pub unwound : State → State
 unwound s = with_variables (without_frames s.variables) s
 
 -- what turns, calls and commands do to the state of a run
-abbrev pub of_states : Steps State Array
+abbrev pub of_states : States State Array
 of_states = record {
   turns = λ s. s.turns;
   begun = λ s. s.begun;

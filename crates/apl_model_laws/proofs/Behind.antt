@@ -9,7 +9,7 @@ use Rattle.apl_base.specs.declared.faults.Place.{Place}
 use Rattle.apl_base.specs.Array.{Array}
 use Rattle.apl_model.specs.declared.scripts.Command.{Command}
 use Rattle.apl_model.specs.declared.scripts.Command.TheVariants.{Vars, Fns, Erase, Origin}
-use Rattle.apl_model.specs.Agreement.{CallsAgree, ValuesAgree, StepsAgree, MeaningsAgree}
+use Rattle.apl_model.specs.Agreement.{CallsAgree, ValuesAgree, StatesAgree, MeaningsAgree}
 use Rattle.apl_model.specs.Call.{Routine, on_turn, call_within, calls_of}
 use Rattle.apl_model.specs.Frames.{with_call, result_in}
 use Rattle.apl_model.specs.Environment.{look_up}
@@ -81,7 +81,7 @@ obeyed_onto text functions (Erase names) s = refl
 obeyed_onto text functions (Origin o) s = refl
 
 -- and neither does what turns, calls and commands do
-states_behind : (text : List ℕ) → StepsAgree (onto text) (λ (a : Array). a) of_states of_states
+states_behind : (text : List ℕ) → StatesAgree (onto text) (λ (a : Array). a) of_states of_states
 states_behind text = record {
   turns = λ s. refl;
   begun = λ s. refl;

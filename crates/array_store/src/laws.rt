@@ -68,14 +68,18 @@ pub fn follows_examples()
 
 /// Worked examples of the definitions.
 pub fn worked_rows()
-    ensures widened { hull (interval.Span (pos 2) (pos 5)) (negsuc 0) ≡ interval.Span (negsuc 0) (pos 5) }
+    ensures widened { hull (interval.Span (pos 2) (pos 5)) (negsuc 0)
+        ≡ interval.Span (negsuc 0) (pos 5) }
     ensures inside { hull (interval.Span (pos 2) (pos 5)) (pos 3) ≡ interval.Span (pos 2) (pos 5) }
-    ensures exact { exact_interval (pos 3 ∷ negsuc 1 ∷ pos 7 ∷ []) ≡ interval.Span (negsuc 1) (pos 7) }
+    ensures exact { exact_interval (pos 3 ∷ negsuc 1 ∷ pos 7 ∷ [])
+        ≡ interval.Span (negsuc 1) (pos 7) }
     ensures nothing { exact_interval [] ≡ interval.Empty }
-    ensures forwards { cells_along (pos 3 ∷ negsuc 1 ∷ pos 7 ∷ []) (pos 0) (pos 2) 2 ≡ pos 3 ∷ pos 7 ∷ [] }
+    ensures forwards { cells_along (pos 3 ∷ negsuc 1 ∷ pos 7 ∷ []) (pos 0) (pos 2) 2
+        ≡ pos 3 ∷ pos 7 ∷ [] }
     ensures backwards { cells_along (pos 3 ∷ negsuc 1 ∷ pos 7 ∷ []) (pos 2) (negsuc 0) 3
         ≡ pos 7 ∷ negsuc 1 ∷ pos 3 ∷ [] }
-    ensures again { cells_along (pos 3 ∷ negsuc 1 ∷ pos 7 ∷ []) (pos 1) (pos 0) 2 ≡ negsuc 1 ∷ negsuc 1 ∷ [] }
+    ensures again { cells_along (pos 3 ∷ negsuc 1 ∷ pos 7 ∷ []) (pos 1) (pos 0) 2
+        ≡ negsuc 1 ∷ negsuc 1 ∷ [] }
     ensures counts { counted 5 4 ≡ 9 }
     ensures stops { counted (2 ^ 64 - 2) 5 ≡ 2 ^ 64 - 1 }
 {}

@@ -109,7 +109,8 @@ impl Store {
     pub fn make(&mut self, cells: Vec<Cell>, kind: Kind) -> Result<OwnerId, NoMemory>
         requires room { HasRoom self.old (vec_len cells) }
         requires lawful { All (IsCell kind) cells.items }
-        ensures made { IfOk result (λ key. Makes self.old self.new key (new_owner cells.items kind)) }
+        ensures made { IfOk result (λ key.
+            Makes self.old self.new key (new_owner cells.items kind)) }
         ensures follows { IfOk result (λ key. Follows self.old self.new none (one_of key)) }
         ensures unchanged { OnErr result (self.new ≡ self.old) }
         ensures store { IsStore self.new }
@@ -181,8 +182,10 @@ impl Store {
     /// counts a fetch for each.
     pub fn fetch_into(&mut self, owner: OwnerId, from: Cell, step: Cell, into: &mut [Cell])
         requires live { 0 < holders_of self.old owner }
-        requires places { PlacesWithin (length (cells_of self.old owner)) from step (length into.old) }
-        ensures cells { into.new ≡ cells_along (cells_of self.old owner) from step (length into.old) }
+        requires places { PlacesWithin (length (cells_of self.old owner)) from step
+            (length into.old) }
+        ensures cells { into.new
+            ≡ cells_along (cells_of self.old owner) from step (length into.old) }
         ensures counted { self.new ≡ after_fetches self.old (length into.old) }
         ensures only { OnlyFetched self.old self.new (length into.old) }
         ensures lawful { All (IsCell (kind_of self.old owner)) into.new }

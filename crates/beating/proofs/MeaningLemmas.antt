@@ -1,10 +1,11 @@
 -- A segment whose leaves are selections means the selection of what the old one means.
-use Rattle.std.proofs.Common.{◌≡◌, ℕ, zero, suc, ◌+◌, ◌<◌, ℤ, pos, false, IsTrue, List, [], ◌∷◌, length, map, get_or, Option, Some, refl, sym, ap, ◌∙◌, subst, arith, zero-add}
+use Rattle.std.proofs.Common.{◌≡◌, ℕ, ℤ, pos, false, IsTrue, List, [], ◌∷◌, length, Option, Some, refl, sym, ap, ◌∙◌, subst, arith}
 use Rattle.std.specs.List.{AllByRecursion}
 use Rattle.apl_base.specs.declared.cells.Elem.{Elem}
 use Rattle.apl_base.specs.declared.cells.Interval.{Interval}
-use Rattle.apl_base.specs.Array.{Array, IsShape, IsIndex, size_of, index_at, place_at, cell_at}
+use Rattle.apl_base.specs.Array.{Array, IsShape, IsIndex, size_of, place_at, cell_at}
 use Rattle.apl_base.specs.Interval.{InInterval, IsInterval}
+use Rattle.apl_base.proofs.Lists.{all_place}
 use Rattle.apl_base.proofs.Sizes.{place_at-below}
 use Rattle.apl_base.proofs.Elements.{tabulated-count, tabulated-each, gathered-at}
 use Rattle.array_desc.specs.Desc.{IsDesc}
@@ -15,7 +16,6 @@ use Rattle.drag_along.specs.Nodes.{leaf_desc, leaf_shape, AllLeaves}
 use Rattle.drag_along.specs.Segments.{SegmentView, IsSegment, HasShape}
 use Rattle.drag_along.specs.Meaning.{Meaning, Means, Faults, IsItsArray, IsMeaning, entry}
 use Rattle.drag_along.specs.Lawful.{IsLawful, MeansWithin}
-use Rattle.drag_along.proofs.OneLeafLemmas.{by_place}
 use Rattle.drag_along.proofs.EntryLemmas.{entry_is_meaning, only_meaning}
 use Rattle.beating.specs.declared.selections.Selection.{Selection}
 use Rattle.beating.specs.Selecting.{Fits, selected_shape, selected_index, selected, selected_meaning, SelectsNodes}
@@ -90,7 +90,7 @@ within by range a f count all =
     tabulated-each (InInterval range) a.kind (selected_shape by a.shape) (λ is. cell_at a (selected_index by a.shape is)) (λ is q.
     let r = reads_index by a.shape is f q in
     let b = place_at-below a.shape (selected_index by a.shape is) r in
-    by_place (InInterval range) a.cells (place_at a.shape (selected_index by a.shape is)) (pos 0) all (omega (arith, b, count)))
+    all_place (InInterval range) a.cells (place_at a.shape (selected_index by a.shape is)) (pos 0) all (omega (arith, b, count)))
 
 -- ---- over a store
 

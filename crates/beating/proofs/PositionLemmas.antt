@@ -1,5 +1,5 @@
 -- Positions that are a progression: which places they name, and the item that they are.
-use Rattle.std.proofs.Common.{◌≡◌, ℕ, zero, suc, ◌+◌, ◌-◌, ◌^◌, ◌<◌, ◌≤◌, ℤ, pos, negsuc, ◌+ℤ◌, ◌-ℤ◌, ◌*ℤ◌, ◌≤ℤ◌, ◌<ℤ◌, Bool, true, false, List, [], ◌∷◌, length, w64, FitsSigned, to_z, of_z, refl, sym, ap, subst, ◌∙◌, arith}
+use Rattle.std.proofs.Common.{◌≡◌, ℕ, zero, suc, ◌-◌, ◌^◌, ◌<◌, ◌≤◌, ℤ, pos, negsuc, ◌+ℤ◌, ◌-ℤ◌, ◌*ℤ◌, ◌≤ℤ◌, Bool, true, false, List, [], ◌∷◌, length, w64, FitsSigned, to_z, of_z, refl, sym, ap, subst, ◌∙◌, arith}
 use Rattle.std.specs.Prelude.{unsigned_abs}
 use Rattle.std.proofs.lemmas.Int.{ints, to_z-of_z}
 use Rattle.std.proofs.Math.Nat.{mul-le-mul_left}
@@ -10,14 +10,13 @@ use Rattle.apl_base.specs.Array.{IsIndex, size_of, index_at}
 use Rattle.apl_base.specs.Elements.{tabulated}
 use Rattle.apl_base.proofs.Sizes.{IsIndex-index_at}
 use Rattle.apl_base.proofs.Elements.{tabulated-count, tabulated-place}
-use Rattle.array_desc.specs.Desc.{DescView, IsDesc, RunFits}
+use Rattle.array_desc.specs.Desc.{DescView, IsDesc}
 use Rattle.array_store.specs.Stores.{StoreView, IsStore}
 use Rattle.drag_along.specs.declared.leaves.Leaf.TheVariants.{Stored}
 use Rattle.drag_along.specs.Meaning.{leaf_cell, leaf_array}
 use Rattle.drag_along.specs.Lawful.{LiesIn}
 use Rattle.drag_along.proofs.LeafLemmas.{leaf_cells_lawful}
 use Rattle.beating.specs.declared.runs.Run.{Run}
-use Rattle.beating.specs.declared.selections.Item.{Item}
 use Rattle.beating.specs.declared.selections.Item.TheVariants as item
 use Rattle.beating.specs.Runs.{run_value, IsRunOf}
 use Rattle.beating.proofs.RunLemmas.{number_is}

@@ -7,15 +7,11 @@ mod examples;
 mod folds;
 mod laws;
 mod positions;
-#[cfg(test)]
-mod run_tests;
 mod runs;
 mod scaling;
 mod selecting;
 mod selections;
 mod subscripts;
-#[cfg(test)]
-mod tests;
 
 pub use examples::run_examples;
 pub use folds::{fold1, fold2};

@@ -21,7 +21,8 @@ pub fn item_of(
     requires length { length ≤ 2 ^ 40 }
     ensures item { IfOk result (IsItemOf origin length positions is_scalar) }
     ensures on_axis { OnOk result (OnAxis origin length positions) }
-    ensures refused { IfErr result (λ kind. (kind ≡ ErrorKind.Index) × LeavesAxis origin length positions) }
+    ensures refused { IfErr result (λ kind.
+        (kind ≡ ErrorKind.Index) × LeavesAxis origin length positions) }
 {
     if positions.n == 0 {
         return Ok(Item::Run {
@@ -59,7 +60,8 @@ fn last_of(positions: Run) -> Cell
 fn place_of(position: Cell, origin: Cell, length: u64) -> Option<u64>
     requires position { IsNumber position }
     requires origin { IsNumber origin }
-    ensures named { IfSome result (λ place. (pos place ≡ position -ℤ origin) × (place < length)) }
+    ensures named { IfSome result (λ place.
+        (pos place ≡ position -ℤ origin) × (place < length)) }
     ensures off { IfNone result (¬ (NamesPlace origin length position)) }
 {
     let place = position - origin;

@@ -32,7 +32,8 @@ pub fn as_progression(leaf: &Leaf, store: &mut Store) -> Option<Run>
     requires vector { length (leaf_shape leaf.now) ≡ 1 }
     ensures run { IsRunIfAny (leaf_array store.old (leaf_shape leaf.now) leaf.now).cells result }
     ensures positions { IfSome result (λ run. ArePositions run false) }
-    ensures fetched { OnlyFetched store.old store.new (size_of (leaf_shape leaf.now) * stored_of_leaf leaf.now) }
+    ensures fetched { OnlyFetched store.old store.new
+        (size_of (leaf_shape leaf.now) * stored_of_leaf leaf.now) }
 {
     match leaf {
         Leaf::Gen { desc, .. } => Some(run_of_numbers(desc)),
@@ -58,7 +59,8 @@ fn run_of_numbers(desc: &Desc) -> Run
 fn run_of_cells(owner: OwnerId, desc: &Desc, store: &mut Store) -> Option<Run>
     requires lies { LiesIn store.old owner desc.now Num }
     requires vector { length desc.now.shape ≡ 1 }
-    ensures run { IsRunIfAny (leaf_array store.old desc.now.shape (Stored owner desc.now Num)).cells result }
+    ensures run { IsRunIfAny
+        (leaf_array store.old desc.now.shape (Stored owner desc.now Num)).cells result }
     ensures positions { IfSome result (λ run. ArePositions run false) }
     ensures fetched { OnlyFetched store.old store.new (size_of desc.now.shape) }
 {

@@ -1,5 +1,5 @@
 -- What is computed by whole arrays is what each index says.
-use Rattle.std.proofs.Common.{◌≡◌, ℕ, zero, suc, ◌+◌, ◌<◌, ℤ, pos, false, IsTrue, List, [], ◌∷◌, length, map, get_or, Option, Some, None, refl, sym, ap, ◌∙◌, arith}
+use Rattle.std.proofs.Common.{◌≡◌, ℕ, zero, suc, ◌<◌, ℤ, pos, false, IsTrue, List, [], ◌∷◌, length, map, get_or, Option, Some, None, refl, sym, ap, ◌∙◌, arith}
 use Rattle.std.specs.Prelude.{is_none}
 use Rattle.std.specs.Option.{option_map, option_and_then}
 use Rattle.std.specs.List.{AllByRecursion, zip}
@@ -10,17 +10,16 @@ use Rattle.apl_base.specs.declared.faults.Place.{Place}
 use Rattle.apl_base.specs.declared.rows.Mon.{Mon}
 use Rattle.apl_base.specs.declared.rows.Dya.{Dya}
 use Rattle.apl_base.specs.declared.rows.Dya.TheVariants as dya
-use Rattle.apl_base.specs.Array.{Array, IsIndex, size_of, index_at, place_at, cell_at}
+use Rattle.apl_base.specs.Array.{Array, IsIndex, index_at, place_at, cell_at}
 use Rattle.apl_base.specs.Elements.{element, elements, all_defined}
 use Rattle.apl_base.specs.Scalar.{scalar1, scalar2, number as number_element}
 use Rattle.apl_base.proofs.Sizes.{IsIndex-index_at, place_at-below, place_at-index_at}
 use Rattle.apl_base.proofs.Elements.{tabulated-at}
 use Rattle.array_store.specs.Stores.{StoreView}
-use Rattle.drag_along.specs.declared.leaves.Leaf.{Leaf}
 use Rattle.drag_along.specs.declared.nodes.Node.{Node}
 use Rattle.drag_along.specs.declared.nodes.Node.TheVariants.{Operand, One, Two}
 use Rattle.drag_along.specs.Nodes.{leaf_kind, node_place}
-use Rattle.drag_along.specs.Meaning.{Pending, pending, stopped, put, numbers_or, leaf_cell, leaf_array, value_at, fails_on, after_node}
+use Rattle.drag_along.specs.Meaning.{Pending, pending, stopped, put, numbers_or, leaf_cell, value_at, fails_on, after_node}
 use Rattle.drag_along.proofs.LawfulLemmas.{HasForm, FormIf, applied1-form, applied2-form, leaf_array-form}
 
 -- ---- a scalar function's value is a number

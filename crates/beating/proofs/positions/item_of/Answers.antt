@@ -1,4 +1,4 @@
-use Rattle.std.proofs.Common.{◌<◌, refl, arith}
+use Rattle.std.proofs.Common.{refl, arith}
 use Rattle.beating.proofs.PositionLemmas.{FoundFirst, FoundLast, leaves_first, leaves_last, found_on_axis, scalar_item, vector_item, step_casts}
 use Rattle.beating.proofs.positions.item_of.Goals as goal
 
