@@ -14,6 +14,3 @@ pub use faults::ForceFault;
 pub use forcing::force;
 pub use laws::{force_beside, own_beside};
 pub use reads::read_at;
-
-#[cfg(test)]
-mod tests;

@@ -1,4 +1,4 @@
-use Rattle.e_machine.proofs.tests.halves_and_parts.Goals as goal
+use Rattle.forcing_tests.proofs.segments.halves_and_parts.Goals as goal
 
 pub pending-requires : goal.pending-requires
 pending-requires c = c.everywhere.ensures.lawful c.args.store.now

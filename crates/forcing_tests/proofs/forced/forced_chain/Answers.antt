@@ -1,5 +1,5 @@
 use Rattle.e_machine.proofs.LoneLeafLemmas.{ForSome-functions}
-use Rattle.e_machine.proofs.tests.forced_chain.Goals as goal
+use Rattle.forcing_tests.proofs.forced.forced_chain.Goals as goal
 
 pub chain-requires : goal.chain-requires
 chain-requires c = c.in_ok-leaf.ensures.lawful

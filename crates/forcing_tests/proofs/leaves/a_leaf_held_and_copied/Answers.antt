@@ -1,4 +1,4 @@
-use Rattle.e_machine.proofs.tests.a_leaf_held_and_copied.Goals as goal
+use Rattle.forcing_tests.proofs.leaves.a_leaf_held_and_copied.Goals as goal
 
 pub force_beside-requires-clause-lawful : goal.force_beside-requires-clause-lawful
 force_beside-requires-clause-lawful g c = c.in_ok-s.ensures.lawful

@@ -1,4 +1,4 @@
-use Rattle.e_machine.proofs.tests.chain.Goals as goal
+use Rattle.forcing_tests.proofs.segments.chain.Goals as goal
 
 pub pending-requires : goal.pending-requires
 pending-requires c = c.counting.ensures.lawful c.args.store.now

@@ -1,6 +1,6 @@
 use Rattle.std.proofs.Common.{◌∙◌, arith}
 use Rattle.e_machine.proofs.LoneLeafLemmas.{ForSome-functions}
-use Rattle.e_machine.proofs.tests.forced_halves.Goals as goal
+use Rattle.forcing_tests.proofs.forced.forced_halves.Goals as goal
 
 pub halves_and_parts-requires-clause-lawful : goal.halves_and_parts-requires-clause-lawful
 halves_and_parts-requires-clause-lawful c = c.in_ok-vector.ensures.lawful

@@ -3,7 +3,7 @@ use Rattle.std.proofs.lemmas.Int.{ints}
 use Rattle.std.proofs.lemmas.List.{length_push}
 use Rattle.std.proofs.lemmas.List.Elements.{All-push}
 use Rattle.apl_base.specs.Number.{IsNumber}
-use Rattle.e_machine.proofs.tests.filled.Goals as goal
+use Rattle.forcing_tests.proofs.arrays.filled.Goals as goal
 
 pub loop-value-preserved : goal.loop-value-preserved
 loop-value-preserved c = (

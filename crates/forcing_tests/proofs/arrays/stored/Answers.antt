@@ -1,7 +1,7 @@
 use Rattle.std.proofs.Common.{◌≡◌, length, ◌∙◌, arith}
 use Rattle.apl_base.specs.Array.{size_of}
 use Rattle.e_machine.proofs.WholeLemmas.{stands-made}
-use Rattle.e_machine.proofs.tests.stored.Goals as goal
+use Rattle.forcing_tests.proofs.arrays.stored.Goals as goal
 
 pub returns-clause-lawful : goal.returns-clause-lawful
 returns-clause-lawful c =
