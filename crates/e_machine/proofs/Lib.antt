@@ -10,3 +10,4 @@ pub mod FirstFaults
 pub mod ForcedLemmas
 pub mod RowLemmas
 pub mod ReadLemmas
+pub mod ColumnLemmas

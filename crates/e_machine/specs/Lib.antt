@@ -2,3 +2,4 @@ pub mod Forced
 pub mod Refusals
 pub mod Runs
 pub mod Rows
+pub mod Columns

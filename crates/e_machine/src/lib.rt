@@ -1,6 +1,7 @@
 //! Computes the elements of pending expressions.
 #![tactic(auto)]
 
+mod columns;
 mod copies;
 mod elements;
 mod engine;
@@ -13,4 +14,4 @@ pub use copies::own;
 pub use faults::ForceFault;
 pub use forcing::force;
 pub use laws::{force_beside, own_beside};
-pub use reads::read_at;
+pub use reads::{read_at, read_places};
