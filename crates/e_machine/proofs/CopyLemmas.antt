@@ -1,5 +1,5 @@
 -- A copy of a leaf.
-use Rattle.std.proofs.Common.{◌≡◌, ℕ, ◌+◌, ◌≤◌, ℤ, List, [], ◌++◌, length, refl, sym, ap, ◌∙◌, subst, arith}
+use Rattle.std.proofs.Common.{◌≡◌, ℕ, ◌+◌, ◌≤◌, ℤ, List, [], ◌++◌, length, sym, ap, ◌∙◌, subst, arith}
 use Rattle.apl_base.specs.Array.{size_of}
 use Rattle.array_store.specs.Stores.{StoreView, AreCounts, HasRoom, Makes, new_owner}
 use Rattle.array_store.specs.Counting.{OnlyFetched}

@@ -10,4 +10,3 @@ pub mod FirstFaults
 pub mod ForcedLemmas
 pub mod RowLemmas
 pub mod ReadLemmas
-pub mod ColumnLemmas

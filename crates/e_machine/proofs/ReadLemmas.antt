@@ -1,15 +1,8 @@
 -- The rows by which a leaf is read.
-use mir.Syntax.{w128}
-use Rattle.std.proofs.Common.{◌≡◌, ℕ, ◌+◌, ◌-◌, ◌<◌, ◌≤◌, ℤ, pos, ◌+ℤ◌, ◌*ℤ◌, ◌≤ℤ◌, ◌<ℤ◌, List, [], ◌∷◌, ◌++◌, length, map, take, get_or, set, refl, sym, ap, ◌∙◌, add-one, subst, All, append_assoc, append-nil, length-append, arith}
+use Rattle.std.proofs.Common.{◌≡◌, ℕ, ◌+◌, ◌<◌, ◌≤◌, ℤ, pos, ◌+ℤ◌, ◌*ℤ◌, ◌≤ℤ◌, ◌<ℤ◌, List, ◌++◌, length, map, get_or, refl, sym, ap, ◌∙◌, subst, All, append_assoc, append-nil, length-append, arith}
 use Rattle.std.specs.Prelude.{unsigned_abs}
-use Rattle.std.specs.Int.{int_wrap}
-use Rattle.std.specs.Int.RustNames.{FitsSigned}
-use Rattle.std.proofs.lemmas.Int.{ints, int_wrap_fits, int_wrap-add_left}
 use Rattle.std.proofs.lemmas.List.{map-append}
-use Rattle.std.proofs.Math.Seq.{take-suc-set}
-use Rattle.std.proofs.Math.IntN.{*ℤ-zero}
 use Rattle.std.proofs.lemmas.List.Elements.{All-nil, All-append}
-use Rattle.apl_base.specs.declared.cells.Kind.{Kind}
 use Rattle.apl_base.specs.declared.cells.Kind.TheVariants.{Num, Char}
 use Rattle.apl_base.specs.Array.{IsIndex, size_of, index_at}
 use Rattle.apl_base.specs.Number.{IsNumber, IsCharacter, IsCell}
@@ -27,8 +20,8 @@ use Rattle.drag_along.specs.Lawful.{IsLawfulLeaf}
 use Rattle.e_machine.specs.Forced.{AreRead, cells_from}
 use Rattle.e_machine.proofs.CountedLemmas.{lawful_leaf-counted, leaf_cell-counted}
 use Rattle.apl_base.specs.Selection.{upward}
-use Rattle.apl_base.proofs.Upward.{upward-append, length-map-upward, get_or-map-places, get_or-map-upward, map-upward-same, list_by_places}
-use Rattle.e_machine.specs.Rows.{numbers_along, row_cells, CanRead}
+use Rattle.apl_base.proofs.Upward.{upward-append, length-map-upward, get_or-map-upward, map-upward-same, list_by_places}
+use Rattle.e_machine.specs.Rows.{row_cells, CanRead}
 
 -- ---- the rows of a leaf
 

@@ -1,33 +1,21 @@
 -- The loops that read a leaf by rows.
 use mir.Syntax.{w128}
-use Rattle.std.proofs.Common.{◌≡◌, ℕ, ◌+◌, ◌-◌, ◌<◌, ◌≤◌, ℤ, pos, ◌+ℤ◌, ◌*ℤ◌, List, [], ◌∷◌, ◌++◌, length, map, take, get_or, set, refl, sym, ap, ◌∙◌, add-one, subst, All, append_assoc, append-nil, arith}
-use Rattle.std.specs.Prelude.{unsigned_abs}
+use Rattle.std.proofs.Common.{◌≡◌, ℕ, ◌+◌, ◌<◌, ℤ, pos, ◌+ℤ◌, ◌*ℤ◌, List, [], ◌∷◌, ◌++◌, length, map, take, set, refl, sym, ap, ◌∙◌, add-one, subst, All, arith}
 use Rattle.std.specs.Int.{int_wrap}
 use Rattle.std.specs.Int.RustNames.{FitsSigned}
 use Rattle.std.proofs.lemmas.Int.{ints, int_wrap_fits, int_wrap-add_left}
 use Rattle.std.proofs.lemmas.List.{map-append}
 use Rattle.std.proofs.Math.Seq.{take-suc-set}
 use Rattle.std.proofs.Math.IntN.{*ℤ-zero}
-use Rattle.std.proofs.lemmas.List.Elements.{All-nil, All-append}
 use Rattle.apl_base.specs.declared.cells.Kind.{Kind}
-use Rattle.apl_base.specs.declared.cells.Kind.TheVariants.{Num, Char}
-use Rattle.apl_base.specs.Array.{IsIndex, size_of, index_at}
 use Rattle.apl_base.specs.Number.{IsNumber, IsCell}
-use Rattle.apl_base.proofs.Sizes.{IsIndex-index_at}
-use Rattle.array_desc.specs.Desc.{DescView, IsDesc}
-use Rattle.array_desc.specs.Rows.{WalkView, number_on}
-use Rattle.array_store.specs.Stores.{StoreView, AreCounts, cells_of, counted}
-use Rattle.array_store.specs.Counting.{OnlyCounted, after_fetches}
-use Rattle.array_store.proofs.CountingLemmas.{after_fetches-then}
+use Rattle.array_desc.specs.Desc.{DescView}
+use Rattle.array_store.specs.Stores.{StoreView}
 use Rattle.drag_along.specs.declared.leaves.Leaf.{Leaf}
-use Rattle.drag_along.specs.declared.leaves.Leaf.TheVariants.{Stored, Gen}
-use Rattle.drag_along.specs.Nodes.{leaf_desc, leaf_kind, leaf_shape}
-use Rattle.drag_along.specs.Meaning.{leaf_cell}
-use Rattle.drag_along.specs.Lawful.{IsLawfulLeaf}
-use Rattle.e_machine.specs.Forced.{AreRead, cells_from}
-use Rattle.e_machine.proofs.CountedLemmas.{lawful_leaf-counted, leaf_cell-counted}
+use Rattle.drag_along.specs.declared.leaves.Leaf.TheVariants.{Gen}
+use Rattle.drag_along.specs.Nodes.{leaf_kind}
 use Rattle.apl_base.specs.Selection.{upward}
-use Rattle.apl_base.proofs.Upward.{upward-append, length-map-upward, get_or-map-places, get_or-map-upward, map-upward-same, list_by_places}
+use Rattle.apl_base.proofs.Upward.{upward-append, length-map-upward, get_or-map-places}
 use Rattle.e_machine.specs.Rows.{numbers_along, row_cells, CanRead}
 
 -- ---- numbers a step apart

@@ -2,4 +2,3 @@ pub mod Forced
 pub mod Refusals
 pub mod Runs
 pub mod Rows
-pub mod Columns

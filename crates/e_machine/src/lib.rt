@@ -1,7 +1,6 @@
 //! Computes the elements of pending expressions.
 #![tactic(auto)]
 
-mod columns;
 mod copies;
 mod elements;
 mod engine;

@@ -1,7 +1,7 @@
 use Rattle.std.proofs.Common.{ap, ◌∙◌}
 use Rattle.apl_base.specs.Array.{size_of}
 use Rattle.array_desc.specs.Desc.{DescView}
-use Rattle.e_machine.proofs.CopyLemmas.{fetched_read, read_is}
+use Rattle.e_machine.proofs.CopyLemmas.{read_is}
 use Rattle.e_machine.proofs.copies.read_all.Goals as goal
 
 pub returns-clause-cells : goal.returns-clause-cells

@@ -1,5 +1,5 @@
 use mir.Syntax.{w128}
-use Rattle.std.proofs.Common.{◌≡◌, ◌<◌, ℕ, ℤ, pos, ◌+ℤ◌, ◌*ℤ◌, length, subst, sym, arith}
+use Rattle.std.proofs.Common.{◌≡◌, ◌<◌, ℕ, pos, ◌+ℤ◌, ◌*ℤ◌, length, arith}
 use Rattle.std.proofs.lemmas.Int.{to_z-of_z}
 use Rattle.apl_base.specs.Number.{IsNumber}
 use Rattle.e_machine.proofs.RowLemmas.{filled_none, filled_next}

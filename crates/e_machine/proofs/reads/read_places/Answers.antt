@@ -1,4 +1,4 @@
-use Rattle.std.proofs.Common.{◌+◌, ◌-◌, ◌≤◌, vec_len, length, ℕ, ◌≡◌, arith, rules}
+use Rattle.std.proofs.Common.{◌+◌, ◌-◌, ◌≤◌, vec_len, length, ◌≡◌, arith, rules}
 use Rattle.apl_base.specs.Array.{size_of}
 use Rattle.drag_along.specs.Nodes.{leaf_shape}
 use Rattle.e_machine.proofs.ReadLemmas.{row_next, read_row_more, length-read}
@@ -14,9 +14,9 @@ loop-done-preserved c =
     let before : length c.loop-done.into.items ≡ vec_len c.loop-done.into = search rules in
     let after : length c.read_row.new.into.items ≡ vec_len c.read_row.new.into = search rules in
     let more = length-read c.loop-done.store c.args.leaf.now _ _ _ _ _ c.read_row.ensures.cells in (
-  read_row_more _ _ _ c.args.leaf.now c.args.first c.loop-done.done _ _ _ _ _ _ c.loop-done.walk _ c.loop-done.invariant.0 c.next_row-row.ensures.numbers c.next_row-row.ensures.moved c.read_row.ensures.cells c.read_row.ensures.lawful c.read_row.ensures.counted,
-  c.read_row.ensures.store,
-  omega (arith, c.next_row-row.ensures.few, c.loop-done-test.true),
-  omega (arith, before, after, more, c.next_row-row.ensures.few, c.loop-done.invariant.3, c.read_row.ensures.capacity),
-  omega (arith, c.read_row.ensures.capacity, c.loop-done.invariant.4),
-)
+      read_row_more _ _ _ c.args.leaf.now c.args.first c.loop-done.done _ _ _ _ _ _ c.loop-done.walk _ c.loop-done.invariant.0 c.next_row-row.ensures.numbers c.next_row-row.ensures.moved c.read_row.ensures.cells c.read_row.ensures.lawful c.read_row.ensures.counted,
+      c.read_row.ensures.store,
+      omega (arith, c.next_row-row.ensures.few, c.loop-done-test.true),
+      omega (arith, before, after, more, c.next_row-row.ensures.few, c.loop-done.invariant.3, c.read_row.ensures.capacity),
+      omega (arith, c.read_row.ensures.capacity, c.loop-done.invariant.4),
+    )
