@@ -24,6 +24,7 @@ pub fn read_at(leaf: &Leaf, index: &[u64], store: &mut Store) -> Elem
     ensures element { result ≡ leaf_element store.old leaf.now index.now }
     ensures cell { IsCell result.kind result.cell }
     ensures counted { IsRead store.old store.new leaf.now }
+    ensures store { IsStore store.new }
 {
     // No owner has more cells than the limit, so each place fits.
     let _limit = store.limit();
