@@ -1,5 +1,5 @@
 -- Facts on whole arrays: values that are all defined, the indices of a shape, and arrays made index by index.
-use Rattle.std.proofs.Common.{◌≡◌, ℕ, zero, suc, ◌+◌, ◌*◌, ◌<◌, ◌≤◌, ℤ, pos, List, [], ◌∷◌, ◌++◌, length, map, get_or, Option, Some, None, IfSome, refl, sym, ap, subst, ◌∙◌, arith}
+use Rattle.std.proofs.Common.{◌≡◌, ℕ, zero, suc, ◌+◌, ◌*◌, ◌<◌, ◌≤◌, ℤ, pos, List, [], ◌∷◌, length, map, get_or, Option, Some, None, IfSome, refl, sym, ap, subst, ◌∙◌, arith}
 use Rattle.std.proofs.lemmas.List.{map-append, length-map}
 use Rattle.std.proofs.lemmas.Simd.{map-map}
 use Rattle.std.proofs.lemmas.Nat.{div-mul-add, mod-mul-add}
@@ -10,8 +10,9 @@ use Rattle.apl_base.specs.Array.{Array, size_of, IsIndex, place_at, index_at, ce
 use Rattle.apl_base.specs.Elements.{element, elements, all_defined, indices, tabulated, gathered}
 use Rattle.apl_base.specs.Selection.{upward}
 use Rattle.apl_base.proofs.Sizes.{place_at-below, IsIndex-index_at, place_at-index_at, index_at-place_at}
-use Rattle.apl_base.proofs.Upward.{length-upward, get_or-upward, upward-append, length-map-upward, get_or-map-places, all-map-upward, map-upward-same, list_by_places}
+use Rattle.apl_base.proofs.Upward.{upward-append, length-map-upward, get_or-map-places, all-map-upward, map-upward-same, list_by_places}
 
+-- as many elements as cells
 pub length-elements : (a : Array) → length (elements a) ≡ length a.cells
 length-elements a = length-map a.cells (element a.kind)
 
@@ -50,6 +51,7 @@ all_defined-each {X = X} P (o ∷ os) xs h e = tail_of o (all_defined os) xs e (
         let here : P v = subst (λ o. IfSome o P) p h.0 in
         (ap length (sym f) ∙ ap suc r.0, subst (AllByRecursion P) f (here, r.1))
 
+-- as many values
 pub all_defined-length : {X : Type 0} (os : List (Option X)) (xs : List X) → all_defined os ≡ Some xs → length xs ≡ length os
 all_defined-length [] xs e = let f : [] ≡ xs = cc in ap length (sym f)
 all_defined-length (o ∷ os) xs e = tail_of o (all_defined os) xs e (λ v vs p q f. ap length (sym f) ∙ ap suc (all_defined-length os vs q))
@@ -75,12 +77,15 @@ all_defined-none {X = X} (Some v ∷ os) e = by (all_defined os) (λ p. all_defi
 
 -- ---- the indices of a shape
 
+-- as many indices as elements
 pub length-indices : (ns : List ℕ) → length (indices ns) ≡ size_of ns
 length-indices ns = length-map-upward (index_at ns) 0 (size_of ns)
 
+-- the index at a place of the list is that of the place
 pub indices-at : (ns : List ℕ) (p : ℕ) (d : List ℕ) → p < size_of ns → get_or (indices ns) p d ≡ index_at ns p
 indices-at ns p d h = get_or-map-places (index_at ns) (size_of ns) p d h
 
+-- each is an index of the shape
 pub indices-each : (ns : List ℕ) → AllByRecursion (IsIndex ns) (indices ns)
 indices-each ns = all-map-upward (IsIndex ns) (index_at ns) 0 (size_of ns) (λ p low high. IsIndex-index_at ns p (omega arith))
 
@@ -115,9 +120,11 @@ indices-rows n ns = let e : 0 * size_of ns ≡ 0 = omega arith in rw e at (rows 
 pub map-indices : {X : Type 0} (f : List ℕ → X) (ns : List ℕ) → map (λ p. f (index_at ns p)) (upward 0 (size_of ns)) ≡ map f (indices ns)
 map-indices f ns = sym (map-map f (index_at ns) (upward 0 (size_of ns)))
 
+-- the cells are those at the indices in order
 pub tabulated-cells : (kind : Kind) (ns : List ℕ) (cell : List ℕ → ℤ) → (tabulated kind ns cell).cells ≡ map cell (indices ns)
 tabulated-cells kind ns cell = map-indices cell ns
 
+-- as many cells as the shape has elements
 pub tabulated-count : (kind : Kind) (ns : List ℕ) (cell : List ℕ → ℤ) → length (tabulated kind ns cell).cells ≡ size_of ns
 tabulated-count kind ns cell = length-map-upward (λ p. cell (index_at ns p)) 0 (size_of ns)
 

@@ -4,6 +4,7 @@ use Rattle.std.proofs.Math.Nat.{mul-le-mul_right}
 use Rattle.std.proofs.lemmas.Int.{ints}
 use borrow.Author.Differences.{up, down, sum_is_lem, product_is}
 
+-- a product with a sum is the sum of the products
 pub mul_add : (s x y : ℤ) → s *ℤ (x +ℤ y) ≡ (s *ℤ x) +ℤ (s *ℤ y)
 mul_add s x y =
     let e = sum_is_lem x y in
@@ -11,6 +12,7 @@ mul_add s x y =
     let q = ap (λ (n : ℕ). down s * n) e in
     omega (arith, ints, p, q)
 
+-- the same from the other side
 pub add_mul : (x y s : ℤ) → (x +ℤ y) *ℤ s ≡ (x *ℤ s) +ℤ (y *ℤ s)
 add_mul x y s =
     let e = sum_is_lem x y in
@@ -18,6 +20,7 @@ add_mul x y s =
     let q = ap (λ (n : ℕ). down s * n) e in
     omega (arith, ints, p, q)
 
+-- of three factors either two are multiplied first
 pub mul_assoc : (s t u : ℤ) → (s *ℤ t) *ℤ u ≡ s *ℤ (t *ℤ u)
 mul_assoc s t u =
     let e = product_is s t in
@@ -46,11 +49,12 @@ times_negative a b n h =
     let t : (up a + down b) * (n + 1) ≤ (up b + down a) * (n + 1) = mul-le-mul_right (n + 1) s in
     omega (arith, ints)
 
--- an integer from 0 up to below n has a magnitude below n, and is that magnitude
+-- an integer from 0 up to below n has a magnitude below n
 pub magnitude-below : (z : ℤ) (n : ℕ) → pos 0 ≤ℤ z → z <ℤ pos n → unsigned_abs z < n
 magnitude-below (pos m) n h k = omega (arith, ints, k)
 magnitude-below (negsuc m) n h k = absurd (omega (arith, ints, h))
 
+-- an integer that is not negative is its magnitude
 pub magnitude-is : (z : ℤ) → pos 0 ≤ℤ z → pos (unsigned_abs z) ≡ z
 magnitude-is (pos n) h = refl
 magnitude-is (negsuc n) h = absurd (omega (arith, ints, h))

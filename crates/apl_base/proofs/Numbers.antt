@@ -1,10 +1,10 @@
 -- Which integers are numbers of the language.
-use Rattle.std.proofs.Common.{◌≡◌, ℕ, ◌^◌, ◌≤◌, Bool, true, ◌&&◌, ℤ, pos, negsuc, neg_ℤ, int_le, unsigned_abs, arith}
+use Rattle.std.proofs.Common.{◌≡◌, ℕ, ◌^◌, ◌≤◌, true, ℤ, pos, negsuc, neg_ℤ, int_le, unsigned_abs, arith}
 use Rattle.std.specs.Int.{int_min, int_max}
 use Rattle.std.proofs.lemmas.Int.{ints, clamps}
 use Rattle.apl_base.specs.declared.cells.TheConstants.{M}
 use Rattle.apl_base.specs.Number.{IsNumber, is_number}
-use Rattle.apl_base.proofs.Tests.{both_parts}
+use Rattle.apl_base.proofs.Booleans.{both_parts}
 
 -- what the test says
 pub is_number-true : (z : ℤ) → is_number z ≡ true → IsNumber z
@@ -23,13 +23,15 @@ pub IsNumber-magnitude : (z : ℤ) → unsigned_abs z ≤ 10 ^ 36 → IsNumber z
 IsNumber-magnitude (pos n) h = record { least = omega (arith, ints); most = omega (arith, ints) }
 IsNumber-magnitude (negsuc n) h = record { least = omega (arith, ints); most = omega (arith, ints) }
 
+-- and back
 pub magnitude-IsNumber : (z : ℤ) → IsNumber z → unsigned_abs z ≤ 10 ^ 36
 magnitude-IsNumber (pos n) h = omega (arith, ints, h.most)
 magnitude-IsNumber (negsuc n) h = omega (arith, ints, h.least)
 
--- the lesser and the greater of two
+-- of two numbers the lesser one
 pub IsNumber-int_min : (a b : ℤ) → IsNumber a → IsNumber b → IsNumber (int_min a b)
 IsNumber-int_min a b p q = record { least = omega (arith, ints, clamps); most = omega (arith, ints, clamps) }
 
+-- of two numbers the greater one
 pub IsNumber-int_max : (a b : ℤ) → IsNumber a → IsNumber b → IsNumber (int_max a b)
 IsNumber-int_max a b p q = record { least = omega (arith, ints, clamps); most = omega (arith, ints, clamps) }

@@ -9,16 +9,19 @@ use Rattle.std.proofs.lemmas.Nat.{div-mul-add, mod-mul-add}
 use Rattle.std.specs.List.{AllByRecursion, EachIndex}
 use Rattle.apl_base.specs.Array.{size_of, IsShape, IsIndex, place_at, index_at}
 
+-- the size of two lists of lengths together
 pub size_of-append : (xs ys : List ℕ) → size_of (xs ++ ys) ≡ size_of xs * size_of ys
 size_of-append [] ys = omega arith
 size_of-append (x ∷ xs) ys = rw (size_of-append xs ys) (omega arith)
 
+-- of one length more
 pub size_of-take-suc : (ns : List ℕ) (i : ℕ) → i < length ns → size_of (take (suc i) ns) ≡ size_of (take i ns) * get_or ns i 0
 size_of-take-suc ns i h =
     let e : size_of (take (suc i) ns) ≡ size_of (take i ns ++ (get_or ns i 0 ∷ [])) = ap size_of (take-suc ns i 0 h) in
     let f : size_of (take i ns ++ (get_or ns i 0 ∷ [])) ≡ size_of (take i ns) * size_of (get_or ns i 0 ∷ []) = size_of-append (take i ns) (get_or ns i 0 ∷ []) in
     omega arith
 
+-- of the lengths from one on
 pub size_of-drop : (ns : List ℕ) (i : ℕ) → i < length ns → size_of (drop i ns) ≡ get_or ns i 0 * size_of (drop (suc i) ns)
 size_of-drop ns i h = ap size_of (drop-cons ns i 0 h)
 
@@ -33,6 +36,7 @@ cap_above s (suc n) c h = let e : min s c ≡ c = omega arith in
     let q : c ≤ s * suc n = omega arith in
     rw e (omega arith)
 
+-- a product of which one factor was capped, capped again
 pub cap_step : (s n c : ℕ) → min (min s c * n) c ≡ min (s * n) c
 cap_step s n c = elim (cases_lt s c) [ inl h ↦ cap_below s n c h | inr h ↦ cap_above s n c h ]
 
@@ -48,6 +52,7 @@ pub each_of_index : (ns : List ℕ) → EachIndex ns (λ k. get_or ns k 0 ≤ 2 
 each_of_index [] h = tt
 each_of_index (n ∷ ns) h = (h 0 (omega arith), each_of_index ns (λ k b. h (suc k) (omega arith)))
 
+-- and back
 pub index_of_each : (ns : List ℕ) → AllByRecursion (λ n. n ≤ 2 ^ 40) ns → EachIndex ns (λ k. get_or ns k 0 ≤ 2 ^ 40)
 index_of_each [] h k b = absurd (omega arith)
 index_of_each (n ∷ ns) h zero b = h.0
@@ -129,21 +134,25 @@ pub record RowMajor (ns is : List ℕ) (place whole : ℕ) : Type 0 where
   pub index : IsIndex ns is
   pub rest : place * size_of ns + place_at ns is ≡ whole
 
+-- before the first axis
 pub RowMajor-start : (ns is : List ℕ) → 0 * size_of ns + place_at ns is ≡ place_at ns is
 RowMajor-start ns is = omega arith
 
+-- one axis more
 pub RowMajor-round : (ns is ns' is' : List ℕ) (n i place whole : ℕ) → ns ≡ n ∷ ns' → is ≡ i ∷ is' → RowMajor ns is place whole → RowMajor ns' is' (place * n + i) whole
 RowMajor-round ns is ns' is' n i place whole e f r =
     let q : IsIndex (n ∷ ns') (i ∷ is') = rw (e, f) at r.index in
     let p : place * size_of (n ∷ ns') + place_at (n ∷ ns') (i ∷ is') ≡ whole = rw (e, f) at r.rest in
     record { index = q.1; rest = omega arith }
 
+-- the place so far is at most the whole one
 pub RowMajor-bound : (ns is : List ℕ) (place whole : ℕ) → RowMajor ns is place whole → place ≤ whole
 RowMajor-bound ns is place whole r =
     let h : place ≤ place * size_of ns = le-mul_of_pos_right place (IsIndex-positive ns is r.index) in
     let e : place * size_of ns + place_at ns is ≡ whole = r.rest in
     omega arith
 
+-- with no axis left the place is the whole one
 pub RowMajor-end : (ns is : List ℕ) (place whole : ℕ) → RowMajor ns is place whole → ((length ns ≡ 0) ⊎ (length is ≡ 0)) → place ≡ whole
 RowMajor-end [] [] place whole r h = let e : place * 1 + 0 ≡ whole = r.rest in omega arith
 RowMajor-end (n ∷ ns) (i ∷ is) place whole r h = elim h [ inl a ↦ absurd (omega arith) | inr b ↦ absurd (omega arith) ]
@@ -166,6 +175,7 @@ pub record Digits (ns : List ℕ) (whole k : ℕ) (made : List ℕ) (rest size :
   pub joined : made ++ index_at (drop k ns) rest ≡ index_at ns whole
   pub count : length made ≡ k
 
+-- before the first axis
 pub Digits-start : (ns : List ℕ) (whole size : ℕ) → size ≡ size_of ns → whole < size_of ns → Digits ns whole 0 [] whole size
 Digits-start ns whole size e h = record { left = e; below = rw e h; joined = refl; count = refl }
 
@@ -177,6 +187,7 @@ factor_positive : (n s size rest : ℕ) → size ≡ n * s → rest < size → 0
 factor_positive zero s size rest e h = absurd (omega arith)
 factor_positive (suc n) s size rest e h = omega arith
 
+-- the next length is not 0
 pub Digits-length : (ns : List ℕ) (whole k : ℕ) (made : List ℕ) (rest size : ℕ) → k < length ns → Digits ns whole k made rest size → 0 < get_or ns k 0
 Digits-length ns whole k made rest size h d = factor_positive _ _ size rest (Digits-size ns whole k made rest size h d) d.below
 
@@ -185,11 +196,13 @@ pub Digits-behind : (ns : List ℕ) (whole k : ℕ) (made : List ℕ) (rest size
 Digits-behind ns whole k made rest size h d =
     rw (Digits-size ns whole k made rest size h d) (mul-div_cancel_left (size_of (drop (suc k) ns)) (Digits-length ns whole k made rest size h d))
 
+-- nor is the size behind it
 pub Digits-stride : (ns : List ℕ) (whole k : ℕ) (made : List ℕ) (rest size : ℕ) → k < length ns → Digits ns whole k made rest size → 0 < size / get_or ns k 0
 Digits-stride ns whole k made rest size h d =
     let below : rest < get_or ns k 0 * size_of (drop (suc k) ns) = rw (← Digits-size ns whole k made rest size h d) d.below in
     rw (Digits-behind ns whole k made rest size h d) (size_of-rest (get_or ns k 0) (size_of (drop (suc k) ns)) rest below)
 
+-- one axis more
 pub Digits-round : (ns : List ℕ) (whole k : ℕ) (made : List ℕ) (rest size : ℕ) → k < length ns → Digits ns whole k made rest size → Digits ns whole (k + 1) (made ++ (rest / (size / get_or ns k 0) ∷ [])) (rest % (size / get_or ns k 0)) (size / get_or ns k 0)
 Digits-round ns whole k made rest size h d =
     let behind : size / get_or ns k 0 ≡ size_of (drop (suc k) ns) = Digits-behind ns whole k made rest size h d in
@@ -202,6 +215,7 @@ Digits-round ns whole k made rest size h d =
       count = omega (arith, length-append made (rest / (size / get_or ns k 0) ∷ []), d.count);
     }
 
+-- with no axis left the numbers are the index
 pub Digits-end : (ns : List ℕ) (whole k : ℕ) (made : List ℕ) (rest size : ℕ) → length ns ≤ k → Digits ns whole k made rest size → made ≡ index_at ns whole
 Digits-end ns whole k made rest size h d =
     let none : drop k ns ≡ [] = drop_of_length-le ns h in

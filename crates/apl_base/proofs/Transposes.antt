@@ -5,7 +5,7 @@ use borrow.Author.Count.{below_more}
 use Rattle.std.proofs.Math.Nat.{mul-le-mul}
 use Rattle.apl_base.specs.Array.{IsShape, size_of}
 use Rattle.apl_base.specs.Selection.{AreAxes, axes_rank, least, lengths_at, upward, transpose_shape}
-use Rattle.apl_base.proofs.Tests.{eqb-same, eqb-other, eqb-passed}
+use Rattle.apl_base.proofs.Booleans.{eqb-same, eqb-other, eqb-passed}
 use Rattle.apl_base.proofs.Upward.{length-map-upward, all-map-upward}
 
 -- a number below one is below the next
@@ -153,6 +153,7 @@ abbrev pub HoldsBelow : ℕ → List ℕ → Type 0
 HoldsBelow zero axes = Unit {0}
 HoldsBelow (suc k) axes = Contains axes k × HoldsBelow k axes
 
+-- then each is
 pub each_held : (k : ℕ) (axes : List ℕ) → HoldsBelow k axes → (r : ℕ) → r < k → Contains axes r
 each_held zero axes h r p = absurd (omega (arith, p))
 each_held (suc k) axes h r p = below_more (λ n. Contains axes n) k (each_held k axes h.1) h.0 r (omega (arith, p))

@@ -1,13 +1,15 @@
 -- The numbers from one on upwards, and what a function gives at them.
-use Rattle.std.proofs.Common.{◌≡◌, ℕ, zero, suc, ◌+◌, ◌<◌, ◌≤◌, List, [], ◌∷◌, ◌++◌, length, map, get_or, refl, sym, ap, ◌∙◌, arith}
+use Rattle.std.proofs.Common.{◌≡◌, ℕ, zero, suc, ◌+◌, ◌<◌, ◌≤◌, List, ◌∷◌, ◌++◌, length, map, get_or, refl, sym, ap, ◌∙◌, arith}
 use Rattle.std.proofs.lemmas.List.{ext_get_or}
 use Rattle.std.specs.List.{AllByRecursion}
 use Rattle.apl_base.specs.Selection.{upward}
 
+-- n numbers
 pub length-upward : (a n : ℕ) → length (upward a n) ≡ n
 length-upward a zero = refl
 length-upward a (suc n) = ap suc (length-upward (suc a) n)
 
+-- the number at a place
 pub get_or-upward : (a n k d : ℕ) → k < n → get_or (upward a n) k d ≡ a + k
 get_or-upward a zero k d h = absurd (omega arith)
 get_or-upward a (suc n) zero d h = omega arith
@@ -34,10 +36,12 @@ all-upward P a (suc n) h = (h a (omega arith) (omega arith), all-upward P (suc a
 
 -- ---- a function at them
 
+-- as many results as numbers
 pub length-map-upward : {X : Type 0} (f : ℕ → X) (a n : ℕ) → length (map f (upward a n)) ≡ n
 length-map-upward f a zero = refl
 length-map-upward f a (suc n) = ap suc (length-map-upward f (suc a) n)
 
+-- the result at a place is that of the number there
 pub get_or-map-upward : {X : Type 0} (f : ℕ → X) (a n k : ℕ) (d : X) → k < n → get_or (map f (upward a n)) k d ≡ f (a + k)
 get_or-map-upward f a zero k d h = absurd (omega arith)
 get_or-map-upward f a (suc n) zero d h = let e : a ≡ a + 0 = omega arith in ap f e

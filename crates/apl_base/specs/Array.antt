@@ -33,6 +33,7 @@ abbrev pub index_at : List ℕ → ℕ → List ℕ
 index_at [] p = []
 index_at (n ∷ ns) p = (p / size_of ns) ∷ index_at ns (p % size_of ns)
 
+-- a kind, the lengths of the axes, and the cells in row-major order
 pub record Array : Type 0 where
   pub kind : Kind
   pub shape : List ℕ

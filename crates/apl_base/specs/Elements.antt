@@ -9,6 +9,7 @@ use Rattle.apl_base.specs.Selection.{upward}
 
 -- ---- elements
 
+-- a cell, and of which kind it is
 abbrev pub element : Kind → ℤ → Elem
 element kind cell = record { kind = kind; cell = cell }
 

@@ -56,6 +56,7 @@ residue (pos zero) b = if int_le (pos 0) b then Some b else None
 residue (pos (suc a)) b = Some (b -ℤ (pos (suc a) *ℤ int_div_euclid b (pos (suc a))))
 residue (negsuc a) b = Some (b -ℤ (pos (suc a) *ℤ int_div_euclid b (pos (suc a))))
 
+-- the product of 1 to n
 abbrev pub factorial : ℕ → ℕ
 factorial zero = 1
 factorial (suc n) = suc n * factorial n
@@ -105,6 +106,7 @@ is_same_kind Char Char = true
 is_same_kind Num Char = false
 is_same_kind Char Num = false
 
+-- two elements are equal: of one kind and with one cell
 abbrev pub is_same : Elem → Elem → Bool
 is_same a b = is_same_kind a.kind b.kind && int_eq a.cell b.cell
 

@@ -7,7 +7,7 @@ use Rattle.apl_base.specs.declared.faults.Refusal.{Refusal}
 use Rattle.apl_model.specs.declared.tokens.Heading.{Heading}
 use Rattle.apl_model.specs.declared.tokens.Line.{Line}
 use Rattle.apl_model.specs.declared.tokens.Token.{Token}
-use Rattle.apl_read.specs.Refusals.{IsFirstIfAny}
+use Rattle.apl_model.specs.Refusal.{IsFirstIfAny}
 use Rattle.apl_defn.proofs.EarlierLemmas.{earlier_first, first_like}
 use Rattle.apl_defn.specs.Earliest.{earlier}
 use Rattle.apl_defn.specs.NameRules.{IsAssigned}

@@ -4,8 +4,7 @@ use Rattle.std.specs.Prelude.{◌&&◌, ◌||◌, if◌then◌else◌}
 use Rattle.std.proofs.lemmas.Bool.{ltb-true, ltb-false, eqb-true, eqb-false}
 use Rattle.apl_base.specs.declared.faults.Refusal.{Refusal}
 use Rattle.apl_model.proofs.Rows.{not_after_itself}
-use Rattle.apl_model.specs.Refusal.{order, IsNotAfter}
-use Rattle.apl_read.specs.Refusals.{IsFirstIfAny}
+use Rattle.apl_model.specs.Refusal.{order, IsNotAfter, IsFirstIfAny}
 use Rattle.apl_defn.specs.Earliest.{is_not_after, earlier}
 
 -- where the test passes, the first numbers are not after the others

@@ -1,18 +1,18 @@
 -- What the first pass finds, with one part more.
 use Rattle.std.proofs.Common.{◌≡◌, ℕ, true, false, List, [], ◌∷◌, ◌++◌, Option, None, Some, ◌⊎◌, inl, inr, ◌↔◌, refl, sym, ap, subst, ◌∙◌, append_assoc, append-nil}
-use Rattle.std.specs.Prelude.{slice_get, if◌then◌else◌}
+use Rattle.std.specs.Prelude.{slice_get, length, if◌then◌else◌}
 use Rattle.std.specs.List.{IsAmong}
 use Rattle.apl_base.specs.declared.faults.Cause.TheVariants as cause
 use Rattle.apl_base.specs.declared.faults.Refusal.{Refusal}
 use Rattle.apl_model.proofs.Accepted.{among_here, among_there, among_cases, among_none, no_stop, part_from}
 use Rattle.apl_model.proofs.Rows.{one_stop, before_after}
 use Rattle.apl_model.proofs.Unique.{one_header}
-use Rattle.apl_model.specs.Refusal.{refusal, first_line, StopsAt, Heads, before_own_name, order}
+use Rattle.apl_model.specs.Refusal.{refusal, first_line, StopsAt, Heads, order, IsFirstIfAny}
 use Rattle.apl_model.specs.Script.{Part, alone, defined, parts, IsHeadOf}
+use Rattle.apl_model.specs.Spelling.{before_own_name}
 use Rattle.apl_model.specs.declared.scripts.Header.{Header}
 use Rattle.apl_model.specs.declared.tokens.Line.{Line}
 use Rattle.apl_model.specs.declared.tokens.Token.{Token}
-use Rattle.apl_read.specs.Refusals.{IsFirstIfAny}
 use Rattle.apl_defn.proofs.EarlierLemmas.{first_like, earlier_first, only_first}
 use Rattle.apl_defn.proofs.PhaseLemmas.{first_part_more, no_part}
 use Rattle.apl_defn.specs.Earliest.{earlier, is_not_after}
@@ -109,17 +109,17 @@ module _ (ps : List Part) (top : Line) (h : Header) (i : IsHeadOf top h) (names 
   pub first_heading : (IsAmong names h.f → ⊥) → IsFirstIfAny (IsSecondHeading ps top) None
   first_heading none r x = none (subst (λ n. IsAmong names n) (ap (λ (v : Header). v.f) (same_head top x.header h x.head i)) ((same x.header.f).1 x.earlier))
 
-  pub heading_again : (t : Token) → IsAmong names h.f → slice_get top.tokens (before_own_name h) ≡ Some t →
+  pub heading_again : (t : Token) → IsAmong names h.f → slice_get top.tokens (length (before_own_name h)) ≡ Some t →
       IsFirstIfAny (IsSecondHeading ps top) (Some (refusal cause.DoubleName top.number t.from))
   heading_again t there e = only_first (IsSecondHeading ps top) (refusal cause.DoubleName top.number t.from)
       (record { header = h; head = i; earlier = (same h.f).0 there; own = t; place = e; is = refl })
-      (λ s x. x.is ∙ ap (λ (v : Token). refusal cause.DoubleName top.number v.from) (own_is x.own t (sym x.place ∙ ap (λ k. slice_get top.tokens (before_own_name k)) (same_head top x.header h x.head i) ∙ e)))
+      (λ s x. x.is ∙ ap (λ (v : Token). refusal cause.DoubleName top.number v.from) (own_is x.own t (sym x.place ∙ ap (λ k. slice_get top.tokens (length (before_own_name k))) (same_head top x.header h x.head i) ∙ e)))
     where
       own_is : (u v : Token) → Some u ≡ Some v → u ≡ v
       own_is u v e = cc
 
-  pub no_own_name : slice_get top.tokens (before_own_name h) ≡ None → IsFirstIfAny (IsSecondHeading ps top) None
-  no_own_name e r x = some_none (sym x.place ∙ ap (λ k. slice_get top.tokens (before_own_name k)) (same_head top x.header h x.head i) ∙ e)
+  pub no_own_name : slice_get top.tokens (length (before_own_name h)) ≡ None → IsFirstIfAny (IsSecondHeading ps top) None
+  no_own_name e r x = some_none (sym x.place ∙ ap (λ k. slice_get top.tokens (length (before_own_name k))) (same_head top x.header h x.head i) ∙ e)
 
 -- ---- What is found of one part ----
 

@@ -29,14 +29,14 @@ head f z x y ls = record { f = f; result = z; left = x; right = y; locals = ls }
 
 -- the marks of a header behind its ∇
 abbrev marks : Header → List Mark
-marks h = result_marks h.result ++ (argument_marks h.left ++ (some (word.Name h.f) ∷ (argument_marks h.right ++ local_marks h.locals)))
+marks h = (result_marks h.result ++ argument_marks h.left) ++ (some (word.Name h.f) ∷ (argument_marks h.right ++ local_marks h.locals))
 
 -- they say no places
 plain_marks : (h : Header) → ArePlain (marks h)
 plain_marks h =
-    plain-append (result_marks h.result) _ (plain_result h.result)
-    (plain-append (argument_marks h.left) _ (plain_argument h.left)
-    (plain-append (argument_marks h.right) _ (plain_argument h.right) (plain_locals h.locals)))
+    plain-append (result_marks h.result ++ argument_marks h.left) _
+    (plain-append (result_marks h.result) (argument_marks h.left) (plain_result h.result) (plain_argument h.left))
+    (plain-append (argument_marks h.right) _ (plain_argument h.right) (plain_locals h.locals))
 
 -- the words that were read
 abbrev shown : HeaderSoFar → List Word

@@ -27,7 +27,7 @@ form_phase before (defined top body last) r (inr (inr (inr (inr h)))) = phase_is
 
 class_phase : (ls : List Line) (r : Refusal) → IsNameClass ls r → phase r.cause ≡ 3
 class_phase ls r (assigned a b c d f g h i j k l e) = phase_is r cause.NameClass _ _ e
-class_phase ls r (erased a b c d f g h i j k l m n e) = phase_is r cause.NameClass _ _ e
+class_phase ls r (erased a b c d f e) = phase_is r cause.NameClass _ _ e
 class_phase ls r (declared a b c d f g h i e) = phase_is r cause.NameClass _ _ e
 
 deep_phase : (ls : List Line) (r : Refusal) → IsDeep ls r → phase r.cause ≡ 3

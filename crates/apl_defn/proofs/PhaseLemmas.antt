@@ -11,12 +11,11 @@ use Rattle.apl_model.proofs.Rows.{before_after}
 use Rattle.apl_model.proofs.Unique.{one_header}
 use Rattle.apl_model.specs.Environment.{is_same_name}
 use Rattle.apl_model.specs.Grammar.{arguments_of}
-use Rattle.apl_model.specs.Refusal.{outside, in_body, StopsAt, HasStatements, IsHeaderRefusal, no_header, lone, nested, IsOpenDefinition, never_closed, IsDefined, Heads, IsDoubleName, second_heading, second_occurrence, IsNameClass, assigned, erased, declared, IsDeep, opened, AreClasses, IsGrammarRefusal, outside_definitions, in_a_body, IsLineRefusal, header, double_name, open_definition, name_class, deep, grammar}
+use Rattle.apl_model.specs.Refusal.{outside, in_body, StopsAt, HasStatements, IsHeaderRefusal, no_header, lone, nested, IsOpenDefinition, never_closed, IsDefined, Heads, IsDoubleName, second_heading, second_occurrence, IsNameClass, assigned, erased, declared, IsDeep, opened, AreClasses, IsGrammarRefusal, outside_definitions, in_a_body, IsLineRefusal, header, double_name, open_definition, name_class, deep, grammar, IsFirstIfAny}
 use Rattle.apl_model.specs.Script.{Part, alone, defined, parts, heading_of, IsHeadOf}
 use Rattle.apl_model.specs.declared.scripts.Header.{Header}
 use Rattle.apl_model.specs.declared.tokens.Heading.{Heading}
 use Rattle.apl_model.specs.declared.tokens.Line.{Line}
-use Rattle.apl_read.specs.Refusals.{IsFirstIfAny}
 use Rattle.apl_defn.proofs.EarlierLemmas.{first_like, earlier_first}
 use Rattle.apl_defn.specs.Earliest.{earlier}
 use Rattle.apl_defn.specs.NameRules.{IsAssigned, IsTooDeep, IsHeading}
@@ -242,7 +241,7 @@ module _ (ls : List Line) where
     use_refuses : (p : Part) (r : Refusal) → IsAmong (parts ls) p → IsUseRefusal hs p r → IsLineRefusal ls r
     use_refuses (alone l) r m (inl h) = assigned_is l r (inl m) h
     use_refuses (alone l) r m (inr (inl h)) =
-        name_class (erased l h.before h.after h.close h.command h.name_token h.name m h.split h.closes h.erases h.named (heading_known (parts ls) hs h.name classes h.heads) h.is)
+        name_class (erased l h.here m h.among (heading_known (parts ls) hs h.here.name classes h.heads) h.is)
     use_refuses (alone l) r m (inr (inr (inl h))) = too_deep_is l r (inl m) h
     use_refuses (alone l) r m (inr (inr (inr h))) = grammar (outside_definitions l hs h.column classes m h.stops h.is)
     use_refuses (defined top body last) r m (inl h) =
@@ -293,24 +292,8 @@ module _ (ls : List Line) where
         }),
       ),
     )
-    class_use r (erased l before after t u v n m e f g s j q) = (
-      alone l,
-      m,
-      inr (inl (record {
-        close = t;
-        command = u;
-        before = before;
-        after = after;
-        name_token = v;
-        name = n;
-        split = e;
-        closes = f;
-        erases = g;
-        named = s;
-        heads = heads_known (parts ls) hs n classes j;
-        is = q;
-      })),
-    )
+    class_use r (erased l o m e j q) =
+        (alone l, m, inr (inl (record { here = o; among = e; heads = heads_known (parts ls) hs o.name classes j; is = q })))
     class_use r (declared top body h o d m n j q) = (
       defined top body d.last,
       d.among,

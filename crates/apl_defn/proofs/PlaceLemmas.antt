@@ -1,23 +1,22 @@
 -- Names at their places: one place after the other.
 use Rattle.std.proofs.Common.{◌≡◌, ℕ, ◌+◌, ◌<◌, ◌≤◌, true, List, [], ◌∷◌, ◌++◌, length, take, drop, get_or, Option, None, Some, ◌⊎◌, inl, inr, ◌↔◌, refl, sym, ap, subst, ◌∙◌, append_assoc, append-nil, arith}
-use Rattle.std.specs.Prelude.{codes}
+use Rattle.std.specs.Prelude.{codes, ◌&&◌, false, if◌then◌else◌}
 use Rattle.std.specs.List.{IsAmong}
 use Rattle.std.proofs.lemmas.List.{take_more, take_all}
 use Rattle.apl_base.specs.declared.faults.Cause.TheVariants as cause
 use Rattle.apl_base.specs.declared.faults.Refusal.{Refusal}
 use Rattle.apl_model.proofs.Accepted.{among_here, among_there, among_cases, among_none}
-use Rattle.apl_model.specs.Refusal.{refusal, Occurrence, names_in, label_in, labels_in, declared_in}
+use Rattle.apl_model.specs.Refusal.{refusal, Occurrence, names_in, label_in, labels_in, declared_in, erased_in, IsFirstIfAny}
 use Rattle.apl_model.specs.declared.tokens.Heading.{Heading}
 use Rattle.apl_model.specs.declared.tokens.Line.{Line}
 use Rattle.apl_model.specs.declared.tokens.Token.{Token}
 use Rattle.apl_model.specs.declared.tokens.Word.TheVariants as word
-use Rattle.apl_read.specs.Refusals.{IsFirstIfAny}
 use Rattle.apl_defn.proofs.EarlierLemmas.{earlier_first, first_like, only_first}
 use Rattle.apl_defn.specs.Earliest.{earlier}
 use Rattle.apl_defn.specs.NameRules.{IsRepeated, IsHeading, IsErased, IsDeclared}
 use Rattle.apl_defn.specs.Occurrences.{at_most_one, IsNamed, IsWrong, IsMetAgain}
 use Rattle.apl_defn.specs.declared.occurrences.Occurrence as found
-use Rattle.apl_model.specs.Script.{is_glyph_token}
+use Rattle.apl_model.specs.Script.{is_glyph_token, is_name_token}
 use Rattle.apl_defn.specs.Occurrences.{IsAssignedFirst}
 
 -- ---- Members of two lists ----
@@ -303,43 +302,6 @@ name_of_token n t o m = elim (t.word) as (λ w. t.word ≡ w → IsAmong (let r 
 pub token_of_name : (n : ℕ) (t : Token) (name : List ℕ) → t.word ≡ word.Name name → IsAmong (names_in n (t ∷ [])) (record { name = name; line = n; column = t.from })
 token_of_name n t name e = rw e (among_here [] (record { name = name; line = n; column = t.from }) (record { name = name; line = n; column = t.from }) refl)
 
--- a name at a place of tokens is one of them
-record IsTokenNamed (n : ℕ) (ts : List Token) (o : Occurrence) : Type 0 where
-  before : List Token
-  after : List Token
-  token : Token
-  split : ts ≡ before ++ (token ∷ after)
-  named : token.word ≡ word.Name o.name
-  place : o ≡ record { name = o.name; line = n; column = token.from }
-
-token_named : (n : ℕ) (ts : List Token) (o : Occurrence) → IsAmong (names_in n ts) o → IsTokenNamed n ts o
-token_named n [] o m = absurd (among_none o m)
-token_named n (t ∷ ts) o m = elim (among_either (names_in n (t ∷ [])) (names_in n ts) o (subst (λ v. IsAmong v o) (names_more n (t ∷ []) ts) m)) [
-  | inl k ↦ (let h = name_of_token n t o k in let same : h.0 ≡ o.name = ap (λ (v : Occurrence). v.name) (sym h.2) in record {
-    before = [];
-    after = ts;
-    token = t;
-    split = refl;
-    named = h.1 ∙ ap word.Name same;
-    place = h.2 ∙ ap (λ v. record { name = v; line = n; column = t.from }) same;
-  })
-  | inr k ↦ (let h = token_named n ts o k in record {
-    before = t ∷ h.before;
-    after = h.after;
-    token = h.token;
-    split = ap (λ v. t ∷ v) h.split;
-    named = h.named;
-    place = h.place;
-  })
-]
-
-named_token : (n : ℕ) (before : List Token) (t : Token) (after : List Token) (name : List ℕ) → t.word ≡ word.Name name →
-    IsAmong (names_in n (before ++ (t ∷ after))) (record { name = name; line = n; column = t.from })
-named_token n before t after name e =
-    let o : Occurrence = record { name = name; line = n; column = t.from } in
-    subst (λ v. IsAmong v o) (sym (names_more n before (t ∷ after))) (among_second (names_in n before) (names_in n (t ∷ after)) o
-    (subst (λ v. IsAmong v o) (sym (names_more n (t ∷ []) after)) (among_first (names_in n (t ∷ [])) (names_in n after) o (token_of_name n t name e))))
-
 pub two_first : (ts : List Token) (t u : Token) → 2 ≤ length ts → t ≡ get_or ts 0 t → u ≡ get_or ts 1 u → ts ≡ t ∷ u ∷ drop 2 ts
 two_first [] t u l e f = absurd (omega arith)
 two_first (v ∷ []) t u l e f = absurd (omega arith)
@@ -375,35 +337,21 @@ assigned_here hs n ts rest t u a e g h = first_like (IsWrong (IsHeading hs) (nam
         first_same : {v w : Token} {vs ws : List Token} → v ∷ vs ≡ w ∷ ws → v ≡ w
         first_same e = cc
 
--- the heading names after )ERASE are names at places
-pub erased_here : (hs : List Heading) (l : Line) (rest : List Token) (t u : Token) (a : Option Refusal) → l.tokens ≡ t ∷ u ∷ rest → is_glyph_token ")" t ≡ true →
-    u.word ≡ word.Name (codes "ERASE") → IsFirstIfAny (IsWrong (IsHeading hs) (names_in l.number rest)) a → IsFirstIfAny (IsErased hs l) a
-erased_here hs l rest t u a e f g h = first_like (IsWrong (IsHeading hs) (names_in l.number rest)) (IsErased hs l) a there back h
-  where
-    there : (r : Refusal) → IsWrong (IsHeading hs) (names_in l.number rest) r → IsErased hs l r
-    there r x = let k = token_named l.number rest x.here x.among in record {
-      close = t;
-      command = u;
-      before = k.before;
-      after = k.after;
-      name_token = k.token;
-      name = x.here.name;
-      split = e ∙ ap (λ v. t ∷ u ∷ v) k.split;
-      closes = f;
-      erases = g;
-      named = k.named;
-      heads = x.wrong;
-      is = x.is ∙ ap (λ (v : Occurrence). refusal cause.NameClass v.line v.column) k.place;
-    }
+-- names behind )ERASE are erased
+pub erases : (n : ℕ) (ts rest : List Token) (t u : Token) → ts ≡ t ∷ u ∷ rest → is_glyph_token ")" t ≡ true → is_name_token "ERASE" u ≡ true → erased_in n ts ≡ names_in n rest
+erases n ts rest t u e f g = ap (erased_in n) e ∙ ap (λ b. if b && is_name_token "ERASE" u then names_in n rest else []) f ∙ ap (λ b. if b then names_in n rest else []) g
 
-    back : (r : Refusal) → IsErased hs l r → IsWrong (IsHeading hs) (names_in l.number rest) r
-    back r x = record {
-      here = record { name = x.name; line = l.number; column = x.name_token.from };
-      among = subst (λ v. IsAmong (names_in l.number v) (record { name = x.name; line = l.number; column = x.name_token.from })) (sym (two_past (sym e ∙ x.split)))
-          (named_token l.number x.before x.name_token x.after x.name x.named);
-      wrong = x.heads;
-      is = x.is;
-    }
-      where
-        two_past : {v w y z : Token} {vs ws : List Token} → v ∷ w ∷ vs ≡ y ∷ z ∷ ws → vs ≡ ws
-        two_past e = cc
+-- and other tokens erase nothing
+pub erases_nothing : (n : ℕ) (ts rest : List Token) (t u : Token) → ts ≡ t ∷ u ∷ rest → (is_glyph_token ")" t && is_name_token "ERASE" u) ≡ false → erased_in n ts ≡ []
+erases_nothing n ts rest t u e f = ap (erased_in n) e ∙ ap (λ b. if b then names_in n rest else []) f
+
+pub few_erase : (n : ℕ) (ts : List Token) → length ts < 2 → erased_in n ts ≡ []
+few_erase n [] h = refl
+few_erase n (t ∷ []) h = refl
+few_erase n (t ∷ u ∷ ts) h = absurd (omega arith)
+
+-- the refusal of erased names
+pub erased_here : (hs : List Heading) (l : Line) (a : Option Refusal) → IsFirstIfAny (IsWrong (IsHeading hs) (erased_in l.number l.tokens)) a → IsFirstIfAny (IsErased hs l) a
+erased_here hs l a h = first_like (IsWrong (IsHeading hs) (erased_in l.number l.tokens)) (IsErased hs l) a
+    (λ r x. record { here = x.here; among = x.among; heads = x.wrong; is = x.is })
+    (λ r x. record { here = x.here; among = x.among; wrong = x.heads; is = x.is }) h

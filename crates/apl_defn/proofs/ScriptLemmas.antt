@@ -1,15 +1,16 @@
 -- A script is read where both passes find no refusal, and else the first one is what they find.
-use Rattle.std.proofs.Common.{◌≡◌, ℕ, ◌≤◌, ◌^◌, length, true, List, [], ◌∷◌, Option, None, Some, refl, sym, subst}
-use Rattle.std.specs.Prelude.{map, Result, Ok, Err, IfOk}
+use Rattle.std.proofs.Common.{◌≡◌, ℕ, ◌≤◌, length, true, List, [], ◌∷◌, Option, None, Some, refl, sym, subst}
+use Rattle.std.specs.Prelude.{map, Result, Ok, Err}
 use Rattle.std.specs.List.{IsAmong}
 use Rattle.std.specs.Str.Lossy.{utf8_valid_len}
 use Rattle.apl_base.specs.declared.faults.Cause.TheVariants as cause
 use Rattle.apl_base.specs.declared.faults.Refusal.{Refusal}
+use Rattle.apl_base.specs.declared.faults.TheConstants.{MOST_BYTES}
 use Rattle.apl_model.proofs.Accepted.{part_from}
 use Rattle.apl_model.specs.Mirror.{item_of}
 use Rattle.apl_model.proofs.Rows.{first_in_reading, first_in_lines}
 use Rattle.apl_model.specs.Lines.{lines_of}
-use Rattle.apl_model.specs.Refusal.{refusal, IsReadingRefusal, never_closed, AreClasses, IsLineRefusal, double_name, name_class, deep, IsRefusal, IsFirst, IsAccepted}
+use Rattle.apl_model.specs.Refusal.{refusal, IsReadingRefusal, never_closed, AreClasses, IsLineRefusal, double_name, name_class, deep, IsRefusal, IsFirst, IsAccepted, IsFirstIfAny}
 use Rattle.apl_model.specs.Script.{Part, alone, defined, parts, opens, heading_of, IsScript}
 use Rattle.apl_model.specs.Tokens.{IsRead}
 use Rattle.apl_model.specs.Tree.{Script}
@@ -17,11 +18,10 @@ use Rattle.apl_model.specs.declared.scripts.Header.{Header}
 use Rattle.apl_model.specs.declared.tokens.Heading.{Heading}
 use Rattle.apl_model.specs.declared.tokens.Line.{Line}
 use Rattle.apl_model.specs.declared.tokens.Token.{Token}
-use Rattle.apl_read.specs.Refusals.{IsFirstIfAny}
-use Rattle.apl_read.specs.Answer.{IsRefusedFirst}
-use Rattle.apl_read.specs.declared.faults.ReadFault.{ReadFault}
-use Rattle.apl_read.specs.declared.faults.ReadFault.TheVariants as fault
-use Rattle.apl_tree.specs.Outcome.{IfRefused}
+use Rattle.apl_model.specs.ReadFaults.{IsRefusedFirst}
+use Rattle.apl_model.specs.declared.faults.ReadFault.{ReadFault}
+use Rattle.apl_model.specs.declared.faults.ReadFault.TheVariants as fault
+use Rattle.apl_model.specs.ReadFaults.{IfRefused}
 use Rattle.apl_read.proofs.FirstRefusal.{reading_phase}
 use Rattle.apl_defn.proofs.OrderLemmas.{first_form, first_use, no_use, script_is}
 use Rattle.apl_defn.proofs.PhaseLemmas.{open_form}
@@ -83,11 +83,6 @@ module _ (ls : List Line) (f : Forms) (forms : AreForms (parts ls) f) where
 
 -- ---- A script of bytes ----
 
--- what holds of each answer
-pub ok_like : {A E : Type 0} (r : Result A E) (P Q : A → Type 0) → ((a : A) → P a → Q a) → IfOk r P → IfOk r Q
-ok_like (Ok a) P Q f h = f a h
-ok_like (Err e) P Q f h = tt
-
 pub refused_like : {A : Type 0} (r : Result A ReadFault) (P Q : Refusal → Type 0) → ((o : Refusal) → P o → Q o) → IfRefused r P → IfRefused r Q
 refused_like (Ok a) P Q f h = tt
 refused_like (Err (fault.Refused o)) P Q f h = f o h
@@ -97,7 +92,7 @@ pub refused_first : (A : Type 0) (x : ReadFault) (P : Refusal → Type 0) → Is
 refused_first A (fault.Refused o) P h = h
 refused_first A fault.NoMemory P h = tt
 
-module _ (bytes : List ℕ) (short : length bytes ≤ 2 ^ 20) where
+module _ (bytes : List ℕ) (short : length bytes ≤ MOST_BYTES) where
   -- a refusal of reading is the first of all
   pub reading_refused : (r : Refusal) → IsFirst (IsReadingRefusal bytes) r → IsFirst (IsRefusal bytes) r
   reading_refused r h = first_in_reading bytes r short (reading_phase bytes r h.refuses) h.refuses h.first

@@ -8,7 +8,7 @@ use Rattle.apl_model.proofs.Accepted.{no_stop}
 use Rattle.apl_model.proofs.Rows.{one_stop, before_after}
 use Rattle.apl_model.proofs.Unique.{one_header}
 use Rattle.apl_model.specs.Mirror.{item_of, body_line_of}
-use Rattle.apl_model.specs.Refusal.{refusal, LineKind, outside, in_body, IsLawful, StopsAt}
+use Rattle.apl_model.specs.Refusal.{refusal, LineKind, outside, in_body, IsLawful, StopsAt, IsFirstIfAny}
 use Rattle.apl_model.specs.Script.{Part, alone, defined, parts, IsHeadOf, IsItem, IsBodyLine}
 use Rattle.apl_model.specs.Tree as plain
 use Rattle.apl_model.specs.declared.scripts.BodyLine.{BodyLine}
@@ -16,7 +16,6 @@ use Rattle.apl_model.specs.declared.scripts.Header.{Header}
 use Rattle.apl_model.specs.declared.scripts.ScriptItem.{ScriptItem}
 use Rattle.apl_model.specs.declared.tokens.Heading.{Heading}
 use Rattle.apl_model.specs.declared.tokens.Line.{Line}
-use Rattle.apl_read.specs.Refusals.{IsFirstIfAny}
 use Rattle.apl_defn.proofs.EarlierLemmas.{first_like, earlier_first, only_first}
 use Rattle.apl_defn.proofs.FormLemmas.{neither}
 use Rattle.apl_defn.proofs.PhaseLemmas.{none_of_none, first_more}

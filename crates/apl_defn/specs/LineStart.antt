@@ -1,5 +1,5 @@
 -- How a line begins.
-use Rattle.std.specs.Prelude.{ℕ, nat_lt, Bool, false, if◌then◌else◌, List, [], ◌∷◌, Option, Some, None}
+use Rattle.std.specs.Prelude.{ℕ, Bool, false, if◌then◌else◌, List, [], ◌∷◌, Option, Some, None}
 use Rattle.apl_model.specs.Grammar.{arguments_of}
 use Rattle.apl_model.specs.Script.{is_glyph_token}
 use Rattle.apl_model.specs.declared.tokens.Heading.{Heading}
@@ -11,28 +11,17 @@ abbrev pub begins_command : List Token → Bool
 begins_command [] = false
 begins_command (t ∷ ts) = is_glyph_token ")" t
 
--- the name that a token is
-abbrev pub name_of : Token → Option (List ℕ)
-name_of t = elim (t.word) [ word.Name n ↦ Some n | _ ↦ None ]
+-- a name of this class, where it heads no definition
+abbrev pub unless_heading : Option ℕ → List ℕ → Option (List ℕ)
+unless_heading None n = Some n
+unless_heading (Some k) n = None
 
--- the label of a line of a body: a name directly before :
-abbrev pub label_of : List Token → Option (List ℕ)
-label_of [] = None
-label_of (t ∷ []) = None
-label_of (t ∷ u ∷ ts) = if is_glyph_token ":" u then name_of t else None
+-- the name that a token is, where it heads no definition
+abbrev pub free_name : List Heading → Token → Option (List ℕ)
+free_name hs t = elim (t.word) [ word.Name n ↦ unless_heading (arguments_of hs n) n | _ ↦ None ]
 
--- whether a function has a left argument
-abbrev pub has_left : Option ℕ → Bool
-has_left None = false
-has_left (Some k) = nat_lt 1 k
-
--- whether the first token is the name of a function with a left argument, with which no statement begins
-abbrev pub begins_between : List Heading → List Token → Bool
-begins_between hs [] = false
-begins_between hs (t ∷ ts) = elim (t.word) [ word.Name n ↦ has_left (arguments_of hs n) | _ ↦ false ]
-
--- the column of the second token, or one column past the first
-abbrev pub second_column : List Token → ℕ
-second_column [] = 1
-second_column (t ∷ []) = t.past
-second_column (t ∷ u ∷ ts) = u.from
+-- the label of a line of a body: such a name directly before :
+abbrev pub label_of : List Heading → List Token → Option (List ℕ)
+label_of hs [] = None
+label_of hs (t ∷ []) = None
+label_of hs (t ∷ u ∷ ts) = if is_glyph_token ":" u then free_name hs t else None

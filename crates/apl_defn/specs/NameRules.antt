@@ -1,11 +1,11 @@
 -- The refusals by names and by depth of one line or one definition, over given headings.
-use Rattle.std.specs.Prelude.{◌≡◌, ℕ, List, ◌∷◌, ◌++◌, Some, codes, true}
+use Rattle.std.specs.Prelude.{◌≡◌, ℕ, List, ◌∷◌, ◌++◌, Some, true}
 use Rattle.std.specs.List.{IsAmong}
 use Rattle.std.specs.Option.{IsSome}
 use Rattle.apl_base.specs.declared.faults.Cause.TheVariants as cause
 use Rattle.apl_base.specs.declared.faults.Refusal.{Refusal}
 use Rattle.apl_model.specs.Grammar.{arguments_of}
-use Rattle.apl_model.specs.Refusal.{refusal, Occurrence, declared_in, too_deep}
+use Rattle.apl_model.specs.Refusal.{refusal, Occurrence, declared_in, erased_in, too_deep}
 use Rattle.apl_model.specs.Script.{is_glyph_token}
 use Rattle.apl_model.specs.declared.tokens.Heading.{Heading}
 use Rattle.apl_model.specs.declared.tokens.Line.{Line}
@@ -40,20 +40,12 @@ pub record IsAssigned (hs : List Heading) (l : Line) (r : Refusal) : Type 0 wher
   pub heads : IsHeading hs name
   pub is : r ≡ refusal cause.NameClass l.number name_token.from
 
--- a heading name that )ERASE names
+-- a heading name that )ERASE erases
 pub record IsErased (hs : List Heading) (l : Line) (r : Refusal) : Type 0 where
-  pub close : Token
-  pub command : Token
-  pub before : List Token
-  pub after : List Token
-  pub name_token : Token
-  pub name : List ℕ
-  pub split : l.tokens ≡ close ∷ command ∷ (before ++ (name_token ∷ after))
-  pub closes : is_glyph_token ")" close ≡ true
-  pub erases : command.word ≡ word.Name (codes "ERASE")
-  pub named : name_token.word ≡ word.Name name
-  pub heads : IsHeading hs name
-  pub is : r ≡ refusal cause.NameClass l.number name_token.from
+  pub here : Occurrence
+  pub among : IsAmong (erased_in l.number l.tokens) here
+  pub heads : IsHeading hs here.name
+  pub is : r ≡ refusal cause.NameClass here.line here.column
 
 -- a heading name, other than its own, that a definition of the function `own` declares
 pub record IsDeclared (hs : List Heading) (own : List ℕ) (top : Line) (body : List Line) (r : Refusal) : Type 0 where

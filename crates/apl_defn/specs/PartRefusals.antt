@@ -1,10 +1,11 @@
 -- The refusals of one part of a script, and of one line.
-use Rattle.std.specs.Prelude.{◌≡◌, ℕ, ◌⊎◌, true, List, [], ◌∷◌, ◌++◌, slice_get, Option, Some, None}
+use Rattle.std.specs.Prelude.{◌≡◌, ℕ, ◌⊎◌, true, List, [], ◌∷◌, ◌++◌, length, slice_get, Option, Some, None}
 use Rattle.std.specs.List.{IsAmong}
 use Rattle.apl_base.specs.declared.faults.Cause.TheVariants as cause
 use Rattle.apl_base.specs.declared.faults.Refusal.{Refusal}
-use Rattle.apl_model.specs.Refusal.{refusal, LineKind, outside, in_body, first_line, StopsAt, past_last, Heads, before_own_name}
+use Rattle.apl_model.specs.Refusal.{refusal, LineKind, outside, in_body, first_line, StopsAt, past_last, Heads}
 use Rattle.apl_model.specs.Script.{is_glyph_token, Part, alone, defined, closes, IsHeadOf}
+use Rattle.apl_model.specs.Spelling.{before_own_name}
 use Rattle.apl_model.specs.declared.scripts.Header.{Header}
 use Rattle.apl_model.specs.declared.tokens.Heading.{Heading}
 use Rattle.apl_model.specs.declared.tokens.Line.{Line}
@@ -51,7 +52,7 @@ pub record IsSecondHeading (before : List Part) (first : Line) (r : Refusal) : T
   pub head : IsHeadOf first header
   pub earlier : Heads before header.f
   pub own : Token
-  pub place : slice_get first.tokens (before_own_name header) ≡ Some own
+  pub place : slice_get first.tokens (length (before_own_name header)) ≡ Some own
   pub is : r ≡ refusal cause.DoubleName first.number own.from
 
 -- a name that a definition with a header declares a second time

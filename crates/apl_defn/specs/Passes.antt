@@ -2,12 +2,11 @@
 use Rattle.std.specs.Prelude.{◌≡◌, ℕ, ◌↔◌, true, List, [], ◌∷◌, None, map}
 use Rattle.std.specs.List.{IsAmong, AllZip}
 use Rattle.apl_model.specs.Mirror.{item_of, body_line_of}
-use Rattle.apl_model.specs.Refusal.{Heads}
+use Rattle.apl_model.specs.Refusal.{Heads, IsFirstIfAny}
 use Rattle.apl_model.specs.Script.{Part, alone, defined, opens, IsHeadOf, IsItem, IsBodyLine}
 use Rattle.apl_model.specs.declared.scripts.Header.{Header}
 use Rattle.apl_model.specs.declared.tokens.Heading.{Heading}
 use Rattle.apl_model.specs.declared.tokens.Line.{Line}
-use Rattle.apl_read.specs.Refusals.{IsFirstIfAny}
 use Rattle.apl_defn.specs.PartRefusals.{OfSome, AfterOthers, IsFormRefusal, IsBodyRefusal, IsUseRefusal}
 use Rattle.apl_defn.specs.Reading.{IsReadLine}
 use Rattle.apl_defn.specs.declared.forms.Forms.{Forms}

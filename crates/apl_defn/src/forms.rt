@@ -1,10 +1,11 @@
-ghost use Rattle.std.specs.Prelude.{◌≡◌, ◌++◌, ◌∷◌, ℕ, ◌↔◌, ◌⊎◌, List, [], slice_get, true, IfOk, OnOk};
+ghost use Rattle.std.specs.Prelude.{◌≡◌, ◌++◌, ◌∷◌, ℕ, ◌↔◌, ◌⊎◌, List, [], length, slice_get, true, IfOk, OnOk};
 ghost use Rattle.std.specs.List.{IsAmong};
 ghost use Rattle.std.specs.Option.{option_copied};
 ghost use Rattle.apl_model.specs.Refusal as refusal;
 ghost use Rattle.apl_model.specs.Script.{parts, defined, Part as ScriptPart, opens, IsHeadOf};
+ghost use Rattle.apl_model.specs.Spelling.{before_own_name};
 ghost use Rattle.apl_model.specs.declared.tokens.Line.{Line as GivenLine};
-ghost use Rattle.apl_read.specs.Refusals.{IsFirstIfAny};
+ghost use Rattle.apl_model.specs.Refusal.{IsFirstIfAny};
 ghost use Rattle.apl_defn.specs.PartRefusals as refused;
 ghost use Rattle.apl_defn.specs.Parts.{part_of};
 ghost use Rattle.apl_defn.specs.Passes.{IsReadPart, AreForms};
@@ -15,7 +16,7 @@ use crate::headers::read_header;
 use crate::line_faults::LineFault;
 use crate::name_sets::NameSet;
 use crate::names::repeated_name;
-use crate::parts::{Part, Parts, closes_definition, is_nabla};
+use crate::parts::{Part, Parts, closes_definition};
 use apl_base::{Cause, NoMemory, Refusal};
 use apl_model::{Header, Line, Token};
 use std::alloc::Global;
@@ -45,7 +46,7 @@ fn lone_nabla(line: &Line) -> Option<Refusal>
     ensures { IsFirstIfAny (refused.IsLone line.now) result }
 {
     match line.tokens.as_slice() {
-        [only] if is_nabla(only) => Some(header_refusal(line, only.past)),
+        [only] if only.is_glyph('∇') => Some(header_refusal(line, only.past)),
         _ => None,
     }
 }
@@ -55,7 +56,7 @@ fn nested_line(line: &Line) -> Option<Refusal>
     ensures { IsFirstIfAny (refused.IsNested line.now) result }
 {
     match line.tokens.as_slice() {
-        [nabla, next, ..] if is_nabla(nabla) => Some(header_refusal(line, next.from)),
+        [nabla, next, ..] if nabla.is_glyph('∇') => Some(header_refusal(line, next.from)),
         _ => None,
     }
 }
@@ -87,7 +88,7 @@ fn open_definition(first: &Line, last: Option<&Line>) -> Option<Refusal>
 
 /// The token of the function's own name in the first line of a definition with this header.
 fn own_name<'a>(first: &'a Line, header: &Header) -> Option<&'a Token>
-    ensures { option_copied result ≡ slice_get first.now.tokens (refusal.before_own_name header.now) }
+    ensures { option_copied result ≡ slice_get first.now.tokens (length (before_own_name header.now)) }
 {
     let result = if header.result.is_some() { 2 } else { 0 };
     let left = if header.left.is_some() { 1 } else { 0 };

@@ -14,8 +14,6 @@ mod occurrences;
 mod parts;
 mod scripts;
 mod statement_lines;
-#[cfg(test)]
-mod tests;
 mod uses;
 
 pub use scripts::{script, script_of_bytes};

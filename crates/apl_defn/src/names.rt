@@ -1,9 +1,8 @@
-ghost use Rattle.std.specs.Prelude.{◌≡◌, ◌↔◌, ◌≤◌, ◌⊎◌, ℕ, List, codes, IsTrue, IfOk, OnOk};
+ghost use Rattle.std.specs.Prelude.{◌≡◌, ◌↔◌, ◌≤◌, ◌⊎◌, ℕ, List, IfOk, OnOk};
 ghost use Rattle.std.specs.List.{IsAmong};
 ghost use Rattle.apl_model.specs.Refusal as refusal;
-ghost use Rattle.apl_model.specs.Script.{is_glyph_token};
-ghost use Rattle.apl_model.specs.declared.tokens.Word.TheVariants as word;
-ghost use Rattle.apl_read.specs.Refusals.{IsFirstIfAny};
+ghost use Rattle.apl_model.specs.Script.{is_name_token};
+ghost use Rattle.apl_model.specs.Refusal.{IsFirstIfAny};
 ghost use Rattle.apl_defn.specs.NameRules.{IsRepeated, IsHeading, IsAssigned, IsErased, IsDeclared, IsTooDeep};
 ghost use Rattle.apl_defn.specs.Occurrences.{at_most_one, IsNamed, IsWrong, IsMetAgain, IsAssignedFirst};
 
@@ -79,7 +78,7 @@ fn assigned_first(line: u32, tokens: &[Token], lookup: &Lookup) -> Option<Refusa
     ensures { IsFirstIfAny (IsAssignedFirst lookup.now line tokens.now) result }
 {
     match tokens {
-        [name, arrow, ..] if is_arrow(arrow) => heading_at(name_at(line, name), lookup),
+        [name, arrow, ..] if arrow.is_glyph('←') => heading_at(name_at(line, name), lookup),
         _ => None,
     }
 }
@@ -97,19 +96,12 @@ fn heading_at(place: Option<Occurrence>, lookup: &Lookup) -> Option<Refusal>
     })
 }
 
-/// Whether a token is `←`.
-fn is_arrow(token: &Token) -> bool
-    ensures { result ≡ is_glyph_token "←" token.now }
-{
-    matches!(&token.word, Word::Glyph { glyph: '←' })
-}
-
 /// The first heading name of a line that `)ERASE` names.
 pub(crate) fn erased_name(line: &Line, lookup: &Lookup) -> Option<Refusal>
     ensures { IsFirstIfAny (IsErased lookup.now line.now) result }
 {
     match line.tokens.as_slice() {
-        [close, command, names @ ..] if is_close(close) && is_erase(command) => {
+        [close, command, names @ ..] if close.is_glyph(')') && is_erase(command) => {
             heading_among(line.number, names, lookup)
         }
         _ => None,
@@ -127,16 +119,9 @@ fn heading_among(line: u32, tokens: &[Token], lookup: &Lookup) -> Option<Refusal
     found
 }
 
-/// Whether a token is `)`.
-fn is_close(token: &Token) -> bool
-    ensures { result ≡ is_glyph_token ")" token.now }
-{
-    matches!(&token.word, Word::Glyph { glyph: ')' })
-}
-
 /// Whether a token is the name of the command that erases.
 fn is_erase(token: &Token) -> bool
-    ensures { IsTrue result ↔ (token.now.word ≡ word.Name (codes "ERASE")) }
+    ensures { result ≡ is_name_token "ERASE" token.now }
 {
     match &token.word {
         Word::Name { name } => name.as_str() == "ERASE",

@@ -1,10 +1,9 @@
-ghost use Rattle.std.specs.Prelude.{◌≡◌, ◌∷◌, [], ◌↔◌, IsTrue, codes};
+ghost use Rattle.std.specs.Prelude.{◌≡◌, ◌∷◌, []};
 ghost use Rattle.apl_model.specs.Refusal.{names_in, label_in};
-ghost use Rattle.apl_model.specs.Script.{is_glyph_token};
 ghost use Rattle.apl_defn.specs.Occurrences.{at_most_one};
 
 use apl_base::Name;
-use apl_model::{Line, Token, Word};
+use apl_model::{Line, Token};
 
 /// A name at its place.
 #[derive(Clone, Copy)]
@@ -18,14 +17,12 @@ pub(crate) struct Occurrence<'a> {
 pub(crate) fn name_at(line: u32, token: &Token) -> Option<Occurrence<'_>>
     ensures { at_most_one result ≡ names_in line (token.now ∷ []) }
 {
-    match &token.word {
-        Word::Name { name } => Some(Occurrence {
-            name,
-            line,
-            column: token.from,
-        }),
-        _ => None,
-    }
+    let name = token.name()?;
+    Some(Occurrence {
+        name,
+        line,
+        column: token.from,
+    })
 }
 
 /// The label of a line of a body: a name directly before `:` at its beginning.
@@ -33,14 +30,7 @@ pub(crate) fn label_of(line: &Line) -> Option<Occurrence<'_>>
     ensures { at_most_one result ≡ label_in line.now.number line.now.tokens }
 {
     match line.tokens.as_slice() {
-        [name, colon, ..] if is_colon(colon) => name_at(line.number, name),
+        [name, colon, ..] if colon.is_glyph(':') => name_at(line.number, name),
         _ => None,
     }
-}
-
-/// Whether a token is `:`.
-fn is_colon(token: &Token) -> bool
-    ensures { result ≡ is_glyph_token ":" token.now }
-{
-    matches!(&token.word, Word::Glyph { glyph: ':' })
 }

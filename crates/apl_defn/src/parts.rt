@@ -1,8 +1,8 @@
 ghost use Rattle.std.specs.Prelude.{◌≡◌, ◌∷◌, ◌<◌, ◌≤◌, [], length, position, false, MatchOption, OnSome};
-ghost use Rattle.apl_model.specs.Script.{parts, is_glyph_token, opens, closes, is_empty};
+ghost use Rattle.apl_model.specs.Script.{parts, opens, closes, is_empty};
 ghost use Rattle.apl_defn.specs.Parts.{part_of};
 
-use apl_model::{Line, Token, Word};
+use apl_model::Line;
 
 /// A part of a script: a line outside definitions that has tokens, or a definition: its first line, its body, and the
 /// line that closes it, where there is one.
@@ -23,22 +23,12 @@ pub(crate) struct Parts<'a> {
     rest: &'a [Line],
 }
 
-/// Whether a token is `∇`.
-pub(crate) fn is_nabla(token: &Token) -> bool
-    ensures { result ≡ is_glyph_token "∇" token.now }
-{
-    match &token.word {
-        Word::Glyph { glyph } => *glyph == '∇',
-        _ => false,
-    }
-}
-
 /// Whether a line opens a definition, where none is open.
 fn opens_definition(line: &Line) -> bool
     ensures { result ≡ opens line.now.tokens }
 {
     match line.tokens.as_slice() {
-        [first, _, ..] => is_nabla(first),
+        [first, _, ..] => first.is_glyph('∇'),
         _ => false,
     }
 }
@@ -48,7 +38,7 @@ pub(crate) fn closes_definition(line: &Line) -> bool
     ensures { result ≡ closes line.now.tokens }
 {
     match line.tokens.as_slice() {
-        [only] => is_nabla(only),
+        [only] => only.is_glyph('∇'),
         _ => false,
     }
 }

@@ -1,32 +1,28 @@
-ghost use Rattle.std.specs.Prelude.{◌≡◌, ◌≤◌, ◌^◌, length, IfOk};
-ghost use Rattle.apl_model.specs.Mirror.{script_of};
+ghost use Rattle.std.specs.Prelude.{map, IfOk};
+ghost use Rattle.apl_model.specs.Mirror.{item_of, script_of};
 ghost use Rattle.apl_model.specs.Refusal.{IsAccepted, IsFirst, IsLineRefusal, IsRefusal};
-ghost use Rattle.apl_tree.specs.Outcome.{IfRefused};
+ghost use Rattle.apl_model.specs.ReadFaults.{IfRefused};
 ghost use Rattle.apl_defn.specs.Reading.{AreReadLines, AreAccepted};
 
 use crate::classes::classes_from;
 use crate::copies::copy_lines;
 use crate::forms::read_forms;
 use crate::uses::read_uses;
-use apl_base::{Cause, Refusal};
-use apl_model::{Lines, Script};
-use apl_read::{ReadFault, tokens};
+use apl_base::{Cause, MOST_BYTES, Refusal};
+use apl_model::{Line, Lines, ReadFault, Script, ScriptItem};
+use apl_read::tokens;
 use apl_tree::Lookup;
 use sqlite_items::Items;
 use std::alloc::Global;
 use std::collections::VecDeque;
 
-/// The most bytes that a script may have.
-const MOST_BYTES: usize = 1 << 20;
-
-/// The script that lines are: its statements, commands and definitions, or the first refusal of their definitions,
-/// names and statements. Want of memory is the one free answer.
-pub fn script(alloc: Global, lines: &Lines) -> Result<Script, ReadFault>
-    requires { AreReadLines lines.now.lines }
-    ensures accepted { IfOk result (λ s. AreAccepted lines.now.lines (script_of s)) }
-    ensures refused { IfRefused result (IsFirst (IsLineRefusal lines.now.lines)) }
+/// The items of the script that lines are, or the first refusal of their definitions, names and statements.
+fn read_items(alloc: Global, given: &[Line]) -> Result<Items<ScriptItem>, ReadFault>
+    requires { AreReadLines given.now }
+    ensures accepted { IfOk result (λ items. AreAccepted given.now
+        (record { lines = given.now; items = map item_of items })) }
+    ensures refused { IfRefused result (IsFirst (IsLineRefusal given.now)) }
 {
-    let given = lines.lines.as_slice();
     let forms = read_forms(alloc, given)?;
     if let Some(refusal) = forms.earliest {
         return Err(ReadFault::Refused { refusal });
@@ -36,10 +32,20 @@ pub fn script(alloc: Global, lines: &Lines) -> Result<Script, ReadFault>
     if let Some(refusal) = uses.earliest {
         return Err(ReadFault::Refused { refusal });
     }
-    Ok(Script {
-        lines: Items::from_vec(copy_lines(alloc, given)?),
-        items: Items::from_vec(uses.items),
-    })
+    Ok(Items::from_vec(uses.items))
+}
+
+/// The script that lines are: its statements, commands and definitions, or the first refusal of their definitions,
+/// names and statements. Want of memory is the one free answer.
+pub fn script(alloc: Global, lines: &Lines) -> Result<Script, ReadFault>
+    requires { AreReadLines lines.now.lines }
+    ensures accepted { IfOk result (λ s. AreAccepted lines.now.lines (script_of s)) }
+    ensures refused { IfRefused result (IsFirst (IsLineRefusal lines.now.lines)) }
+{
+    let given = lines.lines.as_slice();
+    let items = read_items(alloc, given)?;
+    let lines = Items::from_vec(copy_lines(alloc, given)?);
+    Ok(Script { lines, items })
 }
 
 /// The script that bytes are, or the first of all their refusals: that they are too long, that they or their
@@ -57,6 +63,7 @@ pub fn script_of_bytes(alloc: Global, bytes: &[u8]) -> Result<Script, ReadFault>
             },
         });
     }
-    let lines = tokens(alloc, bytes)?;
-    script(alloc, &lines)
+    let Lines { lines } = tokens(alloc, bytes)?;
+    let items = read_items(alloc, lines.as_slice())?;
+    Ok(Script { lines, items })
 }

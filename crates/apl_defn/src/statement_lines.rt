@@ -12,13 +12,9 @@ ghost use Rattle.apl_defn.specs.Reading.{IsReadLine, IfStopped};
 use crate::commands::read_command;
 use crate::line_faults::LineFault;
 use apl_base::Name;
-use apl_model::{BodyLine, Line, ScriptItem, Statement, Token, Word};
-use apl_read::ReadFault;
+use apl_model::{BodyLine, Line, ReadFault, ScriptItem, Statement, Token};
 use apl_tree::{Lookup, statement_among};
 use std::alloc::Global;
-
-#[cfg(test)]
-mod tests;
 
 /// The statement or command that a line outside definitions is, or the column where it stops being one.
 pub(crate) fn read_outside(
@@ -75,7 +71,7 @@ pub(crate) fn read_body_line(
     ensures body { IfOk result (λ body. IsBodyLine lookup.now line.now (body_line_of body)) }
     ensures stopped { IfStopped result (refusal.StopsAt refusal.in_body lookup.now line.now.number line.now.tokens) }
 {
-    match label_of(line.tokens.as_slice()) {
+    match label_of(line.tokens.as_slice(), lookup) {
         Some(label) => labelled_line(alloc, line, label, lookup),
         None => unlabelled_line(alloc, line, lookup),
     }
@@ -89,7 +85,7 @@ fn labelled_line(
     lookup: &Lookup,
 ) -> Result<BodyLine, LineFault>
     requires read { IsReadLine line.now }
-    requires label { start.label_of line.now.tokens ≡ Some label.now }
+    requires label { start.label_of lookup.now line.now.tokens ≡ Some label.now }
     ensures body { IfOk result (λ body. IsBodyLine lookup.now line.now (body_line_of body)) }
     ensures stopped { IfStopped result (refusal.StopsAt refusal.in_body lookup.now line.now.number line.now.tokens) }
 {
@@ -103,21 +99,14 @@ fn labelled_line(
     })
 }
 
-/// The line of a body without a label. The name of a function of two arguments begins no statement, and it may be a
-/// label, so there the line stops behind it.
+/// The line of a body without a label.
 fn unlabelled_line(alloc: Global, line: &Line, lookup: &Lookup) -> Result<BodyLine, LineFault>
     requires read { IsReadLine line.now }
-    requires label { start.label_of line.now.tokens ≡ None }
+    requires label { start.label_of lookup.now line.now.tokens ≡ None }
     ensures body { IfOk result (λ body. IsBodyLine lookup.now line.now (body_line_of body)) }
     ensures stopped { IfStopped result (refusal.StopsAt refusal.in_body lookup.now line.now.number line.now.tokens) }
 {
     let _text = line.text.as_str();
-    let tokens = line.tokens.as_slice();
-    if begins_between(tokens, lookup) {
-        return Err(LineFault::Stopped {
-            column: second_column(tokens),
-        });
-    }
     let statement = read_statement(alloc, line, 0, lookup)?;
     Ok(BodyLine {
         line: line.number,
@@ -154,69 +143,28 @@ fn begins_command(tokens: &[Token]) -> bool
     ensures { result ≡ start.begins_command tokens.now }
 {
     match tokens {
-        [first, ..] => is_glyph(first, ')'),
+        [first, ..] => first.is_glyph(')'),
         [] => false,
     }
 }
 
-/// The label that tokens begin with: a name directly before `:`.
-fn label_of(tokens: &[Token]) -> Option<&Name>
-    ensures { option_map (λ name. name.now) result ≡ start.label_of tokens.now }
+/// The label that tokens begin with: a name directly before `:`, where it heads no definition.
+fn label_of<'a>(tokens: &'a [Token], lookup: &Lookup) -> Option<&'a Name>
+    ensures { option_map (λ name. name.now) result ≡ start.label_of lookup.now tokens.now }
 {
     match tokens {
-        [first, second, ..] => {
-            if is_glyph(second, ':') {
-                name_of(first)
-            } else {
-                None
-            }
-        }
+        [first, second, ..] if second.is_glyph(':') => free_name(first, lookup),
         _ => None,
     }
 }
 
-/// Whether tokens begin with the name of a function of two arguments.
-fn begins_between(tokens: &[Token], lookup: &Lookup) -> bool
-    ensures { result ≡ start.begins_between lookup.now tokens.now }
+/// The name that a token is, where it heads no definition.
+fn free_name<'a>(token: &'a Token, lookup: &Lookup) -> Option<&'a Name>
+    ensures { option_map (λ name. name.now) result ≡ start.free_name lookup.now token.now }
 {
-    match tokens {
-        [first, ..] => match name_of(first) {
-            Some(name) => lookup
-                .arguments(name)
-                .is_some_and(|arguments| arguments > 1),
-            None => false,
-        },
-        [] => false,
-    }
-}
-
-/// The column of the second token, or one column past the first.
-fn second_column(tokens: &[Token]) -> u32
-    ensures { result ≡ start.second_column tokens.now }
-{
-    match tokens {
-        [_, second, ..] => second.from,
-        [only] => only.past,
-        [] => 1,
-    }
-}
-
-/// The name that a token is.
-fn name_of(token: &Token) -> Option<&Name>
-    ensures { option_map (λ name. name.now) result ≡ start.name_of token.now }
-{
-    match &token.word {
-        Word::Name { name } => Some(name),
-        _ => None,
-    }
-}
-
-/// Whether a token is this glyph.
-fn is_glyph(token: &Token, glyph: char) -> bool
-    ensures { result ≡ elim (token.now.word) [ Word.Glyph c ↦ c == glyph | _ ↦ false ] }
-{
-    match &token.word {
-        Word::Glyph { glyph: this } => *this == glyph,
-        _ => false,
+    let name = token.name()?;
+    match lookup.arguments(name) {
+        Some(_) => None,
+        None => Some(name),
     }
 }

@@ -1,6 +1,6 @@
 -- The items of an accepted script are well formed.
 use Rattle.std.proofs.Common.{◌≡◌, ℕ, Bool, true, false, cond, List, [], ◌∷◌, ◌++◌, map, Option, None, Some, ◌⊎◌, inl, inr, refl, sym, ap, subst, ◌∙◌, append_assoc}
-use Rattle.std.specs.Prelude.{slice_get, codes}
+use Rattle.std.specs.Prelude.{slice_get, codes, length, ◌&&◌}
 use Rattle.std.specs.List.{IsAmong, AllByRecursion, AllZip, IsDistinct}
 use Rattle.std.specs.Option.{option_to_list}
 use lib.Pointwise.{bytes_decides}
@@ -9,7 +9,7 @@ use Rattle.apl_model.proofs.Decide.{false_true}
 use Rattle.apl_model.proofs.Rows.{before_after}
 use Rattle.apl_model.specs.declared.scripts.Command.{Command}
 use Rattle.apl_model.specs.declared.scripts.Command.TheVariants as command
-use Rattle.apl_model.proofs.Unique.{token_words, same_words, words_of, names_of, names_of-locals, no_label}
+use Rattle.apl_model.proofs.Unique.{token_words, same_words, words_of, names_of, names_of-names, names_of-locals, no_label}
 use Rattle.apl_model.specs.Characters.{code}
 use Rattle.std.proofs.lemmas.Bool.{eqb-true}
 use Rattle.std.proofs.Common.{◌==◌}
@@ -17,9 +17,9 @@ use Rattle.apl_model.specs.Environment.{is_same_name}
 use Rattle.apl_model.specs.Grammar.{arguments_of, IsStatement}
 use Rattle.apl_model.specs.Items.{AreFree, labels, names_of_definition, IsLawfulLine, IsLawfulDefinition, ErasesFree, IsLawfulItem, AreLawful}
 use Rattle.apl_model.specs.Lines.{lines_of}
-use Rattle.apl_model.specs.Refusal.{outside, IsLineOf, Heads, IsDefined, Occurrence, names_in, label_in, labels_in, declared_in, before_own_name, second_heading, second_occurrence, erased, declared, IsAccepted}
+use Rattle.apl_model.specs.Refusal.{outside, IsLineOf, Heads, IsDefined, Occurrence, names_in, label_in, labels_in, declared_in, erased_in, second_heading, second_occurrence, erased, declared, IsAccepted}
 use Rattle.apl_model.specs.Script.{is_glyph_token, Part, alone, defined, parts, headings, heading_of, IsHeadOf, IsBodyLine, IsCommandLine, IsDefinition, IsItem}
-use Rattle.apl_model.specs.Spelling.{glyph, Spell, header_spelling, command_spelling, name_marks, body_spelling}
+use Rattle.apl_model.specs.Spelling.{glyph, Spell, before_own_name, header_spelling, command_spelling, name_marks, body_spelling}
 use Rattle.apl_model.specs.Tree.{Statement, BodyLine, Definition, Item, statement_item, command_item, definition_item, Script}
 use Rattle.apl_model.specs.declared.scripts.Header.{Header}
 use Rattle.apl_model.specs.declared.tokens.Heading.{Heading}
@@ -187,7 +187,7 @@ heads_append ps qs n h = record {
 
 -- the token of a function's own name in its header
 own_token : (f : List ℕ) (z x y : Option (List ℕ)) (ls : List (List ℕ)) (n : ℕ) (ts : List Token) → Spell n (header_spelling (record { f = f; result = z; left = x; right = y; locals = ls })) ts →
-    (t : Token) × (slice_get ts (before_own_name (record { f = f; result = z; left = x; right = y; locals = ls })) ≡ Some t)
+    (t : Token) × (slice_get ts (length (before_own_name (record { f = f; result = z; left = x; right = y; locals = ls }))) ≡ Some t)
 own_token f None None y ls n [] s = absurd s
 own_token f None None y ls n (t ∷ []) s = absurd s.1
 own_token f None None y ls n (t ∷ u ∷ ts) s = (u, refl)
@@ -207,15 +207,18 @@ own_token f (Some z) (Some x) y ls n (t ∷ u ∷ v ∷ []) s = absurd s.1.1.1
 own_token f (Some z) (Some x) y ls n (t ∷ u ∷ v ∷ w ∷ []) s = absurd s.1.1.1.1
 own_token f (Some z) (Some x) y ls n (t ∷ u ∷ v ∷ w ∷ q ∷ ts) s = (q, refl)
 
--- the tokens of )ERASE with names
-erase_tokens : (n : ℕ) (ns : List (List ℕ)) (ts : List Token) → Spell n (command_spelling (command.Erase ns)) ts →
-    (t : Token) × (u : Token) × (rest : List Token) × (ts ≡ t ∷ u ∷ rest) × (glyph ")" ≡ t.word) × (word.Name (codes "ERASE") ≡ u.word) × Spell n (name_marks ns) rest
-erase_tokens n ns [] s = absurd s
-erase_tokens n ns (t ∷ []) s = absurd s.1
-erase_tokens n ns (t ∷ u ∷ rest) s = (t, u, rest, refl, s.0, s.1.0, s.1.1)
+-- the test of the two tokens )ERASE finds them
+erase_test : (w v : Word) → glyph ")" ≡ w → word.Name (codes "ERASE") ≡ v →
+    ((elim w as (λ _. Bool) [ word.Glyph c ↦ c == code ")" | _ ↦ false ]) && (elim v as (λ _. Bool) [ word.Name n ↦ is_same_name n (codes "ERASE") | _ ↦ false ])) ≡ true
+erase_test w v e f = rw (← e) (rw (← f) refl)
 
-paren_test : (w : Word) → glyph ")" ≡ w → (elim w as (λ _. Bool) [ word.Glyph c ↦ c == code ")" | _ ↦ false ]) ≡ true
-paren_test w e = subst (λ v. (elim v as (λ _. Bool) [ word.Glyph c ↦ c == code ")" | _ ↦ false ]) ≡ true) e refl
+-- the names behind )ERASE where they stand
+erased_names : (n : ℕ) (ns : List (List ℕ)) (ts : List Token) → Spell n (command_spelling (command.Erase ns)) ts → map name_of (erased_in n ts) ≡ ns
+erased_names n ns [] s = absurd s
+erased_names n ns (t ∷ []) s = absurd s.1
+erased_names n ns (t ∷ u ∷ ts) s =
+    ap (λ b. map name_of (cond b (names_in n ts) [])) (erase_test t.word u.word s.0 s.1.0) ∙
+    names-in n ts ∙ ap names_of (sym (same_words n (name_marks ns) ts s.1.1)) ∙ names_of-names ns
 
 module _ (bytes : List ℕ) (s : Script) (ok : IsAccepted bytes s) where
   abbrev ks : List Line
@@ -247,25 +250,19 @@ module _ (bytes : List ℕ) (s : Script) (ok : IsAccepted bytes s) where
             ]));
       }
 
-  erases_free : (l : Line) (t u : Token) (before rest : List Token) (ns : List (List ℕ)) → IsLineOf ks outside l → l.tokens ≡ t ∷ u ∷ (before ++ rest) → glyph ")" ≡ t.word → word.Name (codes "ERASE") ≡ u.word →
-      Spell l.number (name_marks ns) rest → AreFree hs ns
-  erases_free l t u before rest [] m e p q a = tt
-  erases_free l t u before [] (n ∷ ns) m e p q a = absurd a
-  erases_free l t u before (v ∷ rest) (n ∷ ns) m e p q a = (
-    elim (free_or_heads n (arguments_of hs n) refl) [
-      | inl f ↦ f
-      | inr h ↦ absurd (ok.classes _ (erased l before rest t u v n m e (paren_test t.word p) (sym q) (sym a.0) h refl))
-    ],
-    erases_free l t u (before ++ (v ∷ [])) rest ns m (e ∙ ap (λ k. t ∷ u ∷ k) (sym (append_assoc before (v ∷ []) rest))) p q a.1,
-  )
+  erases_free : (l : Line) (ns : List (List ℕ)) → IsLineOf ks outside l → Spell l.number (command_spelling (command.Erase ns)) l.tokens → AreFree hs ns
+  erases_free l ns m a =
+      subst (AreFree hs) (erased_names l.number ns l.tokens a) (all_names (λ n. arguments_of hs n ≡ None) (erased_in l.number l.tokens) (λ o q. elim (free_or_heads o.name (arguments_of hs o.name) refl) [
+        | inl f ↦ f
+        | inr h ↦ absurd (ok.classes _ (erased l o m q h refl))
+      ]))
 
   lawful_command : (l : Line) (n : ℕ) (c : Command) → IsAmong (parts ks) (alone l) → IsCommandLine l n c → ErasesFree hs c
   lawful_command l n command.Vars m i = tt
   lawful_command l n command.Fns m i = tt
   lawful_command l n (command.Origin o) m i = tt
   lawful_command l n (command.Erase ns) m i =
-      let x = erase_tokens l.number ns l.tokens i.spells in
-      erases_free l x.0 x.1 [] x.2 ns m x.3 x.4 x.5 x.6
+      erases_free l ns m i.spells
 
   lawful_items : (ps : List Part) (is : List Item) → ((p : Part) → IsAmong ps p → IsAmong (parts ks) p) → AllZip (IsItem hs) ps is → AllByRecursion (IsLawfulItem hs) is
   lawful_items [] [] f z = tt

@@ -4,8 +4,8 @@ use Rattle.std.proofs.Common.{◌≡◌, ℕ, zero, suc, ℤ, pos, negsuc, List,
 use Rattle.std.specs.Option.{option_map}
 use Rattle.apl_base.specs.declared.faults.ErrorKind.{ErrorKind}
 use Rattle.apl_base.specs.declared.faults.Place.{Place}
-use Rattle.apl_model.specs.Agreement.{mapped_outcome, mapped_flow, CallsAgree, ValuesAgree, ExpressionsAgree, PositionsAgree, StatementsAgree, mapped_line, mapped_routine, mapped_step, mapped_run, StepsAgree, MeaningsAgree, FunctionsAgree, RunsAgree, IsTranslation, TranslatedFunctionsAgree, TranslatedRunsAgree, RunsOverValuesAgree}
-use Rattle.apl_model.specs.Call.{Routine, RoutineLine, labels_of, Steps, entered, turn, on_turn, line_at, next_line, run_line, run_lines, run_routine, run_found, routine_of, call_within, calls_of}
+use Rattle.apl_model.specs.Agreement.{mapped_outcome, mapped_flow, CallsAgree, ValuesAgree, ExpressionsAgree, PositionsAgree, StatementsAgree, mapped_line, mapped_routine, mapped_step, mapped_run, StatesAgree, MeaningsAgree, FunctionsAgree, RunsAgree, IsTranslation, TranslatedFunctionsAgree, TranslatedRunsAgree, RunsOverValuesAgree}
+use Rattle.apl_model.specs.Call.{Routine, RoutineLine, labels_of, States, entered, turn, on_turn, line_at, next_line, run_line, run_lines, run_routine, run_found, routine_of, call_within, calls_of}
 use Rattle.apl_model.specs.Environment.{is_same_name}
 use Rattle.apl_model.specs.Immediate.{Ending, reported, out_of_turns, Run, Step, statement_step, command_step, after_statement, run_steps}
 use Rattle.apl_model.specs.Order.{CallsOf, Values, value_in, argument_in, positions_in, show_value, silently, expression_in, flow_in}
@@ -17,12 +17,14 @@ use Rattle.apl_model.specs.Tree.{Tree, Slot, Positions, Statement, constant, var
 pub record IsMapped {S T A B : Type 0} (state : S → T) (value : A → B) (o' : Outcome T B) (o : Outcome S A) : Type 0 where
   pub is : o' ≡ mapped_outcome state value o
 
+-- what follows an outcome that was taken over
 then_mapped : {S T A B C D : Type 0} (state : S → T) (f : A → B) (g : C → D) (o : Outcome S A) (next' : B → T → Outcome T D) (next : A → S → Outcome S C) →
     ((a : A) (s : S) → IsMapped state g (next' (f a) (state s)) (next a s)) → and_then (mapped_outcome state f o) next' ≡ mapped_outcome state g (and_then o next)
 then_mapped state f g (done a s) next' next h = (h a s).is
 then_mapped state f g (fails kind place s) next' next h = refl
 then_mapped state f g (spent s) next' next h = refl
 
+-- what follows agrees where what comes before does
 pub mapped_then : {S T A B C D : Type 0} {state : S → T} {f : A → B} {g : C → D} {o' : Outcome T B} {o : Outcome S A} (next' : B → T → Outcome T D) {next : A → S → Outcome S C} →
     IsMapped state f o' o → ((a : A) (s : S) → IsMapped state g (next' (f a) (state s)) (next a s)) → IsMapped state g (and_then o' next') (and_then o next)
 mapped_then {state = state} {f = f} {g = g} {o = o} next' {next = next} h n =
@@ -62,12 +64,15 @@ module _ {S T V W : Type 0} (state : S → T) (value : V → W) (M : Values S V)
     positions-agree no_position s = record { is = refl }
     positions-agree (position q qs) s = mapped_then _ (positions-agree qs s) (λ vs t. mapped_then _ (argument-agrees q t) (λ v u. record { is = refl }))
 
+  -- a value that is shown
   shown-agrees : (t : Tree) (s : S) → IsMapped state (λ (flow : Flow). flow) (and_then (value_in N t (state s)) (show_value N)) (and_then (value_in M t s) (show_value M))
   shown-agrees t s = mapped_then _ (value-agrees t s) (λ a u. record { is = h.show (Some a) u })
 
+  -- a value after which nothing is shown
   silent-agrees : (t : Tree) (s : S) → IsMapped state (λ (flow : Flow). flow) (and_then (value_in N t (state s)) silently) (and_then (value_in M t s) silently)
   silent-agrees t s = mapped_then _ (value-agrees t s) (λ a u. record { is = refl })
 
+  -- an expression as a statement
   expression-agrees : (t : Tree) (s : S) → IsMapped state (λ (flow : Flow). flow) (expression_in N t (state s)) (expression_in M t s)
   expression-agrees (call f left right place) s =
       mapped_then _ (argument-agrees right s) (λ b t. mapped_then _ (argument-agrees left t) (λ a u.
@@ -85,6 +90,7 @@ module _ {S T V W : Type 0} (state : S → T) (value : V → W) (M : Values S V)
   expression-agrees (inner_product f g a b p) s = shown-agrees (inner_product f g a b p) s
   expression-agrees (subscript a ps p) s = shown-agrees (subscript a ps p) s
 
+  -- a statement
   pub flow-agrees : (t : Statement) (s : S) → IsMapped state (λ (flow : Flow). flow) (flow_in N t (state s)) (flow_in M t s)
   flow-agrees nothing s = record { is = refl }
   flow-agrees (branch value place) s = mapped_then _ (value-agrees value s) (λ a t. record { is = h.branch place a t })
@@ -102,6 +108,7 @@ statements_agree S T V W state value M N h t s = (flow-agrees state value M N h 
 -- ---- lines, calls and items
 
 module _ {P Q : Type 0} (statement : P → Q) where
+  -- other statements have the same labels
   labels-mapped : (body : List (RoutineLine P)) → labels_of (map (mapped_line statement) body) ≡ labels_of body
   labels-mapped [] = refl
   labels-mapped (l ∷ ls) = ap (λ labels. l.label ∷ labels) (labels-mapped ls)
@@ -111,11 +118,13 @@ module _ {P Q : Type 0} (statement : P → Q) where
   line-mapped (l ∷ ls) zero = refl
   line-mapped (l ∷ ls) (suc k) = line-mapped ls k
 
+  -- the line of a number
   line_at-mapped : (body : List (RoutineLine P)) (k : ℤ) → line_at (map (mapped_line statement) body) k ≡ option_map (mapped_line statement) (line_at body k)
   line_at-mapped body (pos zero) = refl
   line_at-mapped body (pos (suc k)) = line-mapped body k
   line_at-mapped body (negsuc k) = refl
 
+  -- the function of a name
   routine_of-mapped : (routines : List (Routine P)) (f : List ℕ) → routine_of (map (mapped_routine statement) routines) f ≡ option_map (mapped_routine statement) (routine_of routines f)
   routine_of-mapped [] f = refl
   routine_of-mapped (r ∷ rs) f =
@@ -129,12 +138,14 @@ same_flow flow = flow
 abbrev same_end : Unit {0} → Unit {0}
 same_end u = u
 
-module _ {S T V W : Type 0} (state : S → T) (value : V → W) (M : Steps S V) (N : Steps T W) (h : StepsAgree state value M N) where
+module _ {S T V W : Type 0} (state : S → T) (value : V → W) (M : States S V) (N : States T W) (h : StatesAgree state value M N) where
+  -- a statement that ended
   entered-mapped : {A B : Type 0} (f : A → B) (line number : ℕ) (o : Outcome S A) → entered N line number (mapped_outcome state f o) ≡ mapped_outcome state f (entered M line number o)
   entered-mapped f line number (done a s) = ap (λ t. done (f a) t) (h.end line number s)
   entered-mapped f line number (fails kind place s) = ap (λ t. fails kind place t) (h.end line number s)
   entered-mapped f line number (spent s) = refl
 
+  -- a turn
   turn-agrees : {A B : Type 0} (f : A → B) (line : ℕ) (act' : T → Outcome T B) (act : S → Outcome S A) → ((s : S) → IsMapped state f (act' (state s)) (act s)) →
       (n : ℕ) (s : S) → IsMapped state f (turn N line n act' (state s)) (turn M line n act s)
   turn-agrees f line act' act a zero s = record { is = refl }
@@ -150,10 +161,11 @@ module _ {S T V W : Type 0} (state : S → T) (value : V → W) (M : Steps S V) 
   on_turn-agrees f line act' act a s =
       record { is = ap (λ n. turn N line n act' (state s)) (h.turns s) ∙ (turn-agrees f line act' act a (M.turns s) s).is }
 
-module _ {S T V W P Q : Type 0} (state : S → T) (value : V → W) (statement : P → Q) (M : Steps S V) (N : Steps T W)
+module _ {S T V W P Q : Type 0} (state : S → T) (value : V → W) (statement : P → Q) (M : States S V) (N : States T W)
     (meaning : CallsOf S V → P → S → Outcome S Flow) (other : CallsOf T W → Q → T → Outcome T Flow)
-    (h : StepsAgree state value M N) (m : MeaningsAgree state value statement meaning other) where
+    (h : StatesAgree state value M N) (m : MeaningsAgree state value statement meaning other) where
   module _ (calls : CallsOf S V) (others : CallsOf T W) (c : CallsAgree state value calls others) where
+    -- a line of a body, and what follows it
     line-agrees : (l : Option (RoutineLine P)) (s : S) (next' : Flow → T → Outcome T (Unit {0})) (next : Flow → S → Outcome S (Unit {0})) →
         ((flow : Flow) (t : S) → IsMapped state same_end (next' flow (state t)) (next flow t)) →
         IsMapped state same_end (run_line N other others (option_map (mapped_line statement) l) (state s) next') (run_line M meaning calls l s next)
@@ -162,6 +174,7 @@ module _ {S T V W P Q : Type 0} (state : S → T) (value : V → W) (statement :
         mapped_then next' (on_turn-agrees state value M N h same_flow l.line (other others (statement l.statement)) (meaning calls l.statement)
         (λ t. record { is = m.agree calls others c l.statement t }) s) n
 
+    -- the lines of a body
     lines-agree : (body : List (RoutineLine P)) (n : ℕ) (k : ℤ) (s : S) →
         IsMapped state same_end (run_lines N other others (map (mapped_line statement) body) n k (state s)) (run_lines M meaning calls body n k s)
     lines-agree body zero k s = record {
@@ -174,6 +187,7 @@ module _ {S T V W P Q : Type 0} (state : S → T) (value : V → W) (statement :
           (λ flow t. lines-agree body n (next_line k flow) t)).is;
     }
 
+    -- a call of a function
     routine-agrees : (r : Routine P) (left right : Option V) (s : S) →
         IsMapped state (option_map value) (run_routine N other others (mapped_routine statement r) (option_map value left) (option_map value right) (state s)) (run_routine M meaning calls r left right s)
     routine-agrees r left right s =
@@ -197,6 +211,7 @@ module _ {S T V W P Q : Type 0} (state : S → T) (value : V → W) (statement :
     found-agrees None place left right s = record { is = refl }
     found-agrees (Some r) place left right s = routine-agrees r left right s
 
+  -- calls, however many more may be pending
   pub calls-agree : (routines : List (Routine P)) (n : ℕ) →
       CallsAgree state value (call_within M meaning routines n) (call_within N other (map (mapped_routine statement) routines) n)
   calls-agree routines zero = record { agree = λ f place left right s. refl }
@@ -208,9 +223,10 @@ module _ {S T V W P Q : Type 0} (state : S → T) (value : V → W) (statement :
             ∙ (found-agrees (call_within M meaning routines n) others (calls-agree routines n) (routine_of routines f) place left right s).is;
       }
 
-module _ {S T V W P Q : Type 0} (state : S → T) (value : V → W) (statement : P → Q) (M : Steps S V) (N : Steps T W) (h : StepsAgree state value M N)
+module _ {S T V W P Q : Type 0} (state : S → T) (value : V → W) (statement : P → Q) (M : States S V) (N : States T W) (h : StatesAgree state value M N)
     (flow_of : P → S → Outcome S Flow) (other : Q → T → Outcome T Flow) (m : (p : P) (s : S) → other (statement p) (state s) ≡ mapped_flow state (flow_of p s))
     (functions : List (List ℕ)) (report_of : ErrorKind → Place → List ℕ) where
+  -- what follows a statement
   after-agrees : (ending : Ending) (o : Outcome S Flow) (next' : Ending → T → Run T) (next : Ending → S → Run S) →
       ((e : Ending) (s : S) → next' e (state s) ≡ mapped_run state (next e s)) →
       after_statement N other functions report_of ending (mapped_flow state o) next' ≡ mapped_run state (after_statement M flow_of functions report_of ending o next)
@@ -220,6 +236,7 @@ module _ {S T V W P Q : Type 0} (state : S → T) (value : V → W) (statement :
       ∙ n reported (M.tell (report_of kind place) (M.unwind s))
   after-agrees ending (spent s) next' next n = ap (λ (t : T). record { ending = out_of_turns; state = t }) (h.unwind s)
 
+  -- statements and commands in order
   pub steps-agree : (steps : List (Step P)) (ending : Ending) (s : S) →
       run_steps N other functions report_of (map (mapped_step statement) steps) ending (state s) ≡ mapped_run state (run_steps M flow_of functions report_of steps ending s)
   steps-agree [] ending s = refl
@@ -240,33 +257,60 @@ runs_agree S T V W P Q state value statement M N meaning other h m routines func
     let others : CallsOf T W = calls_of N other (map (mapped_routine statement) routines) in
     steps-agree state value statement M N h (meaning calls) (other others) (m.agree calls others (calls-agree state value statement M N meaning other h m routines 256)) functions report_of steps ending s
 
--- ---- where only the statements differ
+-- ---- values that stay what they are
 
+-- a value, if there is one, taken over to itself
 pub option-same : {A : Type 0} (a : Option A) → option_map (λ x. x) a ≡ a
 option-same None = refl
 option-same (Some a) = refl
 
-flow-same : {S : Type 0} (o : Outcome S Flow) → mapped_flow (λ s. s) o ≡ o
-flow-same (done flow s) = refl
-flow-same (fails kind place s) = refl
-flow-same (spent s) = refl
+pub options-same : {A : Type 0} (ps : List (Option A)) → map (option_map (λ x. x)) ps ≡ ps
+options-same [] = refl
+options-same (p ∷ ps) = ap (λ q. q ∷ map (option_map (λ x. x)) ps) (option-same p) ∙ ap (λ qs. p ∷ qs) (options-same ps)
 
-result-same : {S V : Type 0} (o : Outcome S (Option V)) → mapped_outcome (λ s. s) (option_map (λ v. v)) o ≡ o
-result-same (done a s) = ap (λ x. done x s) (option-same a)
-result-same (fails kind place s) = refl
-result-same (spent s) = refl
+-- an outcome whose value is taken over to itself
+pub value-same : {S T A : Type 0} (state : S → T) (f : A → A) → ((a : A) → f a ≡ a) → (o : Outcome S A) → mapped_outcome state f o ≡ mapped_outcome state (λ a. a) o
+value-same state f h (done a s) = ap (λ x. done x (state s)) (h a)
+value-same state f h (fails kind place s) = refl
+value-same state f h (spent s) = refl
+
+outcome-same : {S A : Type 0} (o : Outcome S A) → mapped_outcome (λ s. s) (λ a. a) o ≡ o
+outcome-same (done a s) = refl
+outcome-same (fails kind place s) = refl
+outcome-same (spent s) = refl
+
+module _ {S T V : Type 0} (state : S → T) (calls : CallsOf S V) (others : CallsOf T V) where
+  -- the arguments of a call as they are, and taken over to themselves
+  arguments-same : (f : List ℕ) (place : Place) (left right : Option V) (t : T) → others f place (option_map (λ v. v) left) (option_map (λ v. v) right) t ≡ others f place left right t
+  arguments-same f place left right t =
+      ap (λ l. others f place l (option_map (λ v. v) right) t) (option-same left) ∙ ap (λ r. others f place left r t) (option-same right)
+
+  -- calls that leave values as they are agree
+  pub calls-kept : ((f : List ℕ) (place : Place) (left right : Option V) (s : S) → others f place left right (state s) ≡ mapped_outcome state (λ r. r) (calls f place left right s)) →
+      CallsAgree state (λ v. v) calls others
+  calls-kept h = record {
+    agree = λ f place left right s.
+        arguments-same f place left right (state s) ∙ h f place left right s ∙ sym (value-same state (option_map (λ v. v)) option-same (calls f place left right s));
+  }
+
+  -- and the other way round
+  pub call-kept : CallsAgree state (λ v. v) calls others →
+      (f : List ℕ) (place : Place) (left right : Option V) (s : S) → others f place left right (state s) ≡ mapped_outcome state (λ r. r) (calls f place left right s)
+  call-kept c f place left right s =
+      sym (arguments-same f place left right (state s)) ∙ c.agree f place left right s ∙ value-same state (option_map (λ v. v)) option-same (calls f place left right s)
+
+-- ---- where only the statements differ
 
 call-same : {S V : Type 0} (calls others : CallsOf S V) → CallsAgree (λ s. s) (λ v. v) calls others →
     (f : List ℕ) (place : Place) (left right : Option V) (s : S) → others f place left right s ≡ calls f place left right s
-call-same calls others c f place left right s =
-    ap (λ l. others f place l right s) (sym (option-same left)) ∙ ap (λ r. others f place (option_map (λ v. v) left) r s) (sym (option-same right))
-    ∙ c.agree f place left right s ∙ result-same (calls f place left right s)
+call-same calls others c f place left right s = call-kept (λ s. s) calls others c f place left right s ∙ outcome-same (calls f place left right s)
 
 calls-same : {S V : Type 0} (calls others : CallsOf S V) → CallsAgree (λ s. s) (λ v. v) calls others → others ≡ calls
 calls-same calls others c = λ i f place left right s. call-same calls others c f place left right s i
 
-steps-same : {S V : Type 0} (M : Steps S V) → StepsAgree (λ s. s) (λ v. v) M M
-steps-same M = record {
+-- what turns, calls and commands do agrees with itself
+states-same : {S V : Type 0} (M : States S V) → StatesAgree (λ s. s) (λ v. v) M M
+states-same M = record {
   turns = λ s. refl;
   begun = λ s. refl;
   begin = λ left s. refl;
@@ -282,19 +326,20 @@ steps-same M = record {
 
 module _ {S V P Q : Type 0} (statement : P → Q) (meaning : CallsOf S V → P → S → Outcome S Flow) (other : CallsOf S V → Q → S → Outcome S Flow)
     (t : IsTranslation statement meaning other) where
+  -- translated statements mean the same
   pub translation-agrees : MeaningsAgree (λ s. s) (λ v. v) statement meaning other
   translation-agrees = record {
-    agree = λ calls others c p s. ap (λ k. other k (statement p) s) (calls-same calls others c) ∙ t calls p s ∙ sym (flow-same (meaning calls p s));
+    agree = λ calls others c p s. ap (λ k. other k (statement p) s) (calls-same calls others c) ∙ t calls p s ∙ sym (outcome-same (meaning calls p s));
   }
 
 pub translated_functions_agree : (S V P Q : Type 0) → TranslatedFunctionsAgree S V P Q
 translated_functions_agree S V P Q statement M meaning other t routines n f place left right s =
     call-same (call_within M meaning routines n) (call_within M other (map (mapped_routine statement) routines) n)
-    (functions_agree S S V V P Q (λ s. s) (λ v. v) statement M M meaning other (steps-same M) (translation-agrees statement meaning other t) routines n) f place left right s
+    (functions_agree S S V V P Q (λ s. s) (λ v. v) statement M M meaning other (states-same M) (translation-agrees statement meaning other t) routines n) f place left right s
 
 pub translated_runs_agree : (S V P Q : Type 0) → TranslatedRunsAgree S V P Q
 translated_runs_agree S V P Q statement M meaning other t routines functions report_of steps ending s =
-    runs_agree S S V V P Q (λ s. s) (λ v. v) statement M M meaning other (steps-same M) (translation-agrees statement meaning other t) routines functions report_of steps ending s
+    runs_agree S S V V P Q (λ s. s) (λ v. v) statement M M meaning other (states-same M) (translation-agrees statement meaning other t) routines functions report_of steps ending s
 
 -- ---- where only the values differ
 
@@ -302,7 +347,8 @@ lines-same : {P : Type 0} (body : List (RoutineLine P)) → map (mapped_line (λ
 lines-same [] = refl
 lines-same (l ∷ ls) = ap (λ rest. l ∷ rest) (lines-same ls)
 
-routines-same : {P : Type 0} (routines : List (Routine P)) → map (mapped_routine (λ p. p)) routines ≡ routines
+-- functions whose statements are taken over to themselves
+pub routines-same : {P : Type 0} (routines : List (Routine P)) → map (mapped_routine (λ p. p)) routines ≡ routines
 routines-same [] = refl
 routines-same (r ∷ rs) =
     ap (λ body. record { header = r.header; body = body } ∷ map (mapped_routine (λ p. p)) rs) (lines-same r.body) ∙ ap (λ rest. r ∷ rest) (routines-same rs)

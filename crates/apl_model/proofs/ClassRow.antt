@@ -11,7 +11,7 @@ use Rattle.apl_model.proofs.DefinitionRows.{definition_row}
 use Rattle.apl_model.proofs.GrammarRows.{line_1}
 use Rattle.apl_model.proofs.Unique.{one_header}
 use Rattle.apl_model.specs.Examples as example
-use Rattle.apl_model.specs.Refusal.{refusal, LineKind, outside, in_body, first_line, StopsAt, at_token, past_the_last, IsLineOf, HasStatements, no_header, lone, nested, never_closed, Heads, IsDefined, Occurrence, declared_in, second_heading, second_occurrence, assigned, erased, declared, too_deep, opened, outside_definitions, in_a_body, IsLineRefusal, header, double_name, open_definition, name_class, deep, grammar, order, IsNotAfter, IsFirst}
+use Rattle.apl_model.specs.Refusal.{refusal, LineKind, outside, in_body, first_line, StopsAt, at_token, past_the_last, IsLineOf, HasStatements, no_header, lone, nested, never_closed, Heads, IsDefined, Occurrence, declared_in, erased_in, second_heading, second_occurrence, assigned, erased, declared, too_deep, opened, outside_definitions, in_a_body, IsLineRefusal, header, double_name, open_definition, name_class, deep, grammar, order, IsNotAfter, IsFirst}
 use Rattle.apl_model.specs.declared.tokens.Heading.{Heading}
 use Rattle.apl_model.specs.Script.{closes, is_glyph_token, Part, alone, defined, parts, IsHeadOf}
 use Rattle.apl_model.specs.Tokens.{tokens}
@@ -157,11 +157,8 @@ module _ (ks : List Line) (only : parts ks ≡ part ∷ alone third ∷ []) wher
       let x : t1 ∷ t2 ∷ t3 ∷ [] ≡ before ++ (t ∷ (u ∷ after)) = ap (λ (v : Line). v.tokens) (sym w) ∙ e in
       subst (λ v. IsNotAfter (order r) (order v)) (sym (q ∙ ap (λ (v : Line). refusal cause.NameClass v.number t.from) w))
       (class_after t.from (some_column t.from (cut_at before (u ∷ after) t x)))
-  go o (name_class (erased l before after t u v n m e f s j k q)) =
-      let w = where_alone l m in
-      let x : t1 ∷ t2 ∷ t3 ∷ [] ≡ t ∷ u ∷ (before ++ (v ∷ after)) = ap (λ (a : Line). a.tokens) (sym w) ∙ e in
-      let y : t1 ≡ t = cc in
-      absurd (false_true (ap (λ (a : Token). is_glyph_token ")" a) y ∙ f))
+  go o (name_class (erased l p m q j e)) =
+      absurd (among_none p (subst (λ (v : Line). IsAmong (erased_in v.number v.tokens) p) (where_alone l m) q))
   go o (name_class (declared top' body h p d m n j e)) =
       let s = its_header top' body h d in
       let x : IsAmong (record { name = codes "F"; line = 1; column = 2 } ∷ []) p = subst (λ v. IsAmong v p) (declared_there top' body s.0 s.1) m in

@@ -311,11 +311,11 @@ unlabelled hs n ts none = like (λ x. (None, x.0, tt, x.1.0, x.1.1)) back (state
     back (Some l, s, a, h, sp) = absurd (none l s sp)
 
 labelled : (hs : List Heading) (n : ℕ) (t u : Token) (ts : List Token) (l : List ℕ) → word.Name l ≡ t.word → glyph ":" ≡ u.word → Known (IsLawful in_body hs n (t ∷ u ∷ ts))
-labelled hs n t u ts l e f = like (λ x. (Some l, x.1.0, x.0, x.1.1.0, (e, (f, x.1.1.1)))) back (two_known (true_known (is_name l)) (statement_line_known hs n ts))
+labelled hs n t u ts l e f = like (λ x. (Some l, x.1.0, x.0, x.1.1.0, (e, (f, x.1.1.1)))) back (two_known (variable_known hs l) (statement_line_known hs n ts))
   where
-    back : IsLawful in_body hs n (t ∷ u ∷ ts) → IsTrue (is_name l) × ((s : Statement) × (IsStatement hs s × Spell n (statement_spelling s) ts))
+    back : IsLawful in_body hs n (t ∷ u ∷ ts) → IsVariable hs l × ((s : Statement) × (IsStatement hs s × Spell n (statement_spelling s) ts))
     back (None, s, a, h, sp) = no_label hs n t u ts s h sp f
-    back (Some m, s, a, h, sp) = let g = sp.0 in let k : m ≡ l = cc in (subst (λ v. IsTrue (is_name v)) k a, (s, (h, sp.1.1)))
+    back (Some m, s, a, h, sp) = let g = sp.0 in let k : m ≡ l = cc in (subst (λ v. IsVariable hs v) k a, (s, (h, sp.1.1)))
 
 pub body_known : (hs : List Heading) (n : ℕ) (ts : List Token) → Known (IsLawful in_body hs n ts)
 body_known hs n [] = unlabelled hs n [] (λ l s x. x)

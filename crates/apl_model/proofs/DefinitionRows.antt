@@ -81,7 +81,7 @@ module _ (ls : List Line) (top : Line) (last : Option Line) (only : parts ls ≡
           subst (λ v. IsNotAfter (order r) (order v)) (sym (e ∙ ap (λ (v : Line). refusal cause.OpenDefinition v.number t.from) s.0))
           (c t ts (sym s.2) (ap (λ (v : Line). v.tokens) (sym s.0) ∙ f))
       go o (name_class (assigned l before after t u n m e f s j q)) = no_statements l m
-      go o (name_class (erased l before after t u v n m e f s j k q)) = not_alone l m
+      go o (name_class (erased l p m q j e)) = not_alone l m
       go o (name_class (declared top' body h p d m n j e)) =
           let s = its_header top' body h d in
           let x = its_header j.first j.body j.header j.is_defined in

@@ -33,6 +33,7 @@ module _ {S V : Type 0} (M : Values S V) (P : (A : Type 0) → S → Outcome S A
     (ended : (A : Type 0) (a : A) (s : S) → P A s (done a s))
     (then : (A B : Type 0) (s : S) (o : Outcome S A) (next : A → S → Outcome S B) → P A s o → ((a : A) (t : S) → P B t (next a t)) → P B s (and_then o next))
     (h : IsOfEach M P) where
+  -- what follows, with its parts found
   onward : {A B : Type 0} {s : S} {o : Outcome S A} {next : A → S → Outcome S B} → P A s o → ((a : A) (t : S) → P B t (next a t)) → P B s (and_then o next)
   onward {A} {B} {s} {o} {next} p n = then A B s o next p n
 
@@ -62,12 +63,15 @@ module _ {S V : Type 0} (M : Values S V) (P : (A : Type 0) → S → Outcome S A
     every-position no_position s = ended (List (Option V)) [] s
     every-position (position q qs) s = onward (every-position qs s) (λ vs t. onward (every-argument q t) (λ v u. ended (List (Option V)) (v ∷ vs) u))
 
+  -- a value that is shown
   shown : (t : Tree) (s : S) → P Flow s (and_then (value_in M t s) (show_value M))
   shown t s = onward (every-value t s) (λ a u. h.show (Some a) u)
 
+  -- a value after which nothing is shown
   silent : (t : Tree) (s : S) → P Flow s (and_then (value_in M t s) silently)
   silent t s = onward (every-value t s) (λ a u. ended Flow onwards u)
 
+  -- an expression as a statement
   every-expression : (t : Tree) (s : S) → P Flow s (expression_in M t s)
   every-expression (call f left right place) s =
       onward (every-argument right s) (λ b t. onward (every-argument left t) (λ a u. onward (h.calls f place a b u) h.show))
@@ -84,6 +88,7 @@ module _ {S V : Type 0} (M : Values S V) (P : (A : Type 0) → S → Outcome S A
   every-expression (inner_product f g a b p) s = shown (inner_product f g a b p) s
   every-expression (subscript a ps p) s = shown (subscript a ps p) s
 
+  -- a statement
   pub every-flow : (t : Statement) (s : S) → P Flow s (flow_in M t s)
   every-flow nothing s = ended Flow onwards s
   every-flow (branch value place) s = onward (every-value value s) (h.branch place)

@@ -13,5 +13,7 @@ pub mod DefinitionRows
 pub mod DepthRow
 pub mod ClassRow
 pub mod AcceptedItems
+pub mod TokenOrder
+pub mod TokenSlices
 pub mod Mapped
 pub mod Every

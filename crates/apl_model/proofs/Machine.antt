@@ -227,32 +227,39 @@ assigned (variable n p) o = Some (awaits (for_assignment n p) o)
 assigned (subscript (variable n q) qs p) o = Some (awaits (for_indexed n qs p) o)
 assigned _ o = None
 
+-- a name after an operand: that of a function of two arguments
+abbrev pub followed_by_name : Stack → Tree → Place → List ℕ → Option ℕ → Option State
+followed_by_name o e p n None = None
+followed_by_name o e p n (Some zero) = None
+followed_by_name o e p n (Some (suc zero)) = None
+followed_by_name o e p n (Some (suc (suc zero))) = Some (awaits (for_call n (given e) p) o)
+followed_by_name o e p n (Some (suc (suc (suc k)))) = None
+
+-- after an operand, what takes an axis in brackets, or goes on with a dot
+abbrev pub followed_along : Stack → Tree → Place → Sort → Option State
+followed_along o e p turn = Some (state o (axis_or_none (rotates e p)))
+followed_along o e p slash = Some (state o (axis_or_none (compresses e p)))
+followed_along o e p backslash = Some (state o (axis_or_none (expands e p)))
+followed_along o e p jot = Some (state o (after_jot e p))
+followed_along o e p _ = None
+
+-- a function after an operand
+abbrev pub followed_by : Stack → Tree → Place → Sort → Option State
+followed_by o e p (named n k) = followed_by_name o e p n k
+followed_by o e p (scalar f m) = Some (state o (glyph_after f e p))
+followed_by o e p (plain f (Some g)) = Some (awaits (for_dyadic g e p) o)
+followed_by o e p (plain f None) = None
+followed_by o e p slash_first = Some (awaits (for_dyadic (two.Compress axis.First) e p) o)
+followed_by o e p s = followed_along o e p s
+
 -- after an operand
 abbrev pub followed : Stack → Tree → Place → Sort → Option State
-followed o e p (literal l) = None
-followed o e p (named n None) = None
-followed o e p (named n (Some zero)) = None
-followed o e p (named n (Some (suc zero))) = None
-followed o e p (named n (Some (suc (suc zero)))) = Some (awaits (for_call n (given e) p) o)
-followed o e p (named n (Some (suc (suc (suc k))))) = None
-followed o e p (scalar f m) = Some (state o (glyph_after f e p))
-followed o e p (plain f (Some g)) = Some (awaits (for_dyadic g e p) o)
-followed o e p (plain f None) = None
-followed o e p turn = Some (state o (axis_or_none (rotates e p)))
-followed o e p slash = Some (state o (axis_or_none (compresses e p)))
-followed o e p slash_first = Some (awaits (for_dyadic (two.Compress axis.First) e p) o)
-followed o e p backslash = Some (state o (axis_or_none (expands e p)))
-followed o e p jot = Some (state o (after_jot e p))
-followed o e p dot = None
 followed o e p assign = assigned e o
-followed o e p arrow = None
-followed o e p quad = None
-followed o e p open_paren = None
-followed o e p close_paren = let w = wind e o in close_parenthesis w.tree w.stack
 followed o e p open_bracket = Some (state (in_subscript e no_position p o) may)
+followed o e p close_paren = let w = wind e o in close_parenthesis w.tree w.stack
 followed o e p close_bracket = let w = wind e o in close_subscript (given w.tree) w.stack
 followed o e p semicolon = let w = wind e o in next_position (given w.tree) w.stack
-followed o e p other = None
+followed o e p s = followed_by o e p s
 
 -- a position may begin, or be left out
 abbrev pub may_begin : Stack → Place → Sort → Option State

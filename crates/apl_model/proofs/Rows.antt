@@ -61,7 +61,7 @@ line_phase ls r (double_name (second_heading a b c d f g h i j k l e)) = late r 
 line_phase ls r (double_name (second_occurrence a b c d f g h i j k l e)) = late r 2 (omega arith) (phase_is r cause.DoubleName _ _ e)
 line_phase ls r (open_definition (never_closed a b c d f g e)) = late r 2 (omega arith) (phase_is r cause.OpenDefinition _ _ e)
 line_phase ls r (name_class (assigned a b c d f g h i j k l e)) = late r 3 (omega arith) (phase_is r cause.NameClass _ _ e)
-line_phase ls r (name_class (erased a b c d f g h i j k l m n e)) = late r 3 (omega arith) (phase_is r cause.NameClass _ _ e)
+line_phase ls r (name_class (erased a b c d f e)) = late r 3 (omega arith) (phase_is r cause.NameClass _ _ e)
 line_phase ls r (name_class (declared a b c d f g h i e)) = late r 3 (omega arith) (phase_is r cause.NameClass _ _ e)
 line_phase ls r (deep (opened a b c d e)) = late r 3 (omega arith) (phase_is r cause.Deep _ _ e)
 line_phase ls r (grammar (outside_definitions a b c d f g e)) = late r 3 (omega arith) (phase_is r cause.Grammar _ _ e)
@@ -198,7 +198,7 @@ module _ (ls : List Line) (l : Line) (only : parts ls ≡ alone l ∷ []) where
       go o (double_name (second_occurrence top body k before after p q i e j f s)) = no_definition top body i.last i.among
       go o (open_definition (never_closed top body t ts m f e)) = no_definition top body None m
       go o (name_class (assigned m before after t u n i e f s j q)) = heads_none n j
-      go o (name_class (erased m before after t u v n i e f s j k q)) = heads_none n k
+      go o (name_class (erased m p i q j e)) = heads_none p.name j
       go o (name_class (declared top body k p i j q s e)) = heads_none p.name s
       go o (deep (opened m t (inl x) f e)) =
           let s = alone_same m l (only_alone (alone m) x) in

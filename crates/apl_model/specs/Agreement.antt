@@ -11,7 +11,7 @@ use Rattle.apl_model.specs.declared.functions.MonFn.{MonFn}
 use Rattle.apl_model.specs.declared.scripts.Command.{Command}
 use Rattle.apl_model.specs.declared.scripts.Header.{Header}
 use Rattle.apl_model.specs.declared.trees.Literal.{Literal}
-use Rattle.apl_model.specs.Call.{Routine, RoutineLine, Steps, call_within, calls_of}
+use Rattle.apl_model.specs.Call.{Routine, RoutineLine, States, call_within, calls_of}
 use Rattle.apl_model.specs.Immediate.{Ending, Run, Step, statement_step, command_step, run_steps}
 use Rattle.apl_model.specs.Order.{CallsOf, Values, value_in, positions_in, flow_in}
 use Rattle.apl_model.specs.Outcome.{Outcome, done, fails, spent, Flow}
@@ -91,7 +91,7 @@ abbrev pub mapped_run : {S T : Type 0} → (S → T) → Run S → Run T
 mapped_run state r = record { ending = r.ending; state = state r.state }
 
 -- what turns, calls and commands do to the states agrees
-pub record StepsAgree {S T V W : Type 0} (state : S → T) (value : V → W) (M : Steps S V) (N : Steps T W) : Type 0 where
+pub record StatesAgree {S T V W : Type 0} (state : S → T) (value : V → W) (M : States S V) (N : States T W) : Type 0 where
   pub turns : (s : S) → N.turns (state s) ≡ M.turns s
   pub begun : (s : S) → N.begun (state s) ≡ M.begun s
   pub begin : (left : ℕ) (s : S) → N.begin left (state s) ≡ state (M.begin left s)
@@ -112,16 +112,16 @@ pub record MeaningsAgree {S T V W P Q : Type 0} (state : S → T) (value : V →
 
 -- then the calls of functions agree, however many more may be pending
 abbrev pub FunctionsAgree : (S T V W P Q : Type 0) → Type 0
-FunctionsAgree S T V W P Q = (state : S → T) (value : V → W) (statement : P → Q) (M : Steps S V) (N : Steps T W)
+FunctionsAgree S T V W P Q = (state : S → T) (value : V → W) (statement : P → Q) (M : States S V) (N : States T W)
     (meaning : CallsOf S V → P → S → Outcome S Flow) (other : CallsOf T W → Q → T → Outcome T Flow) →
-    StepsAgree state value M N → MeaningsAgree state value statement meaning other → (routines : List (Routine P)) (n : ℕ) →
+    StatesAgree state value M N → MeaningsAgree state value statement meaning other → (routines : List (Routine P)) (n : ℕ) →
     CallsAgree state value (call_within M meaning routines n) (call_within N other (map (mapped_routine statement) routines) n)
 
 -- and so do runs
 abbrev pub RunsAgree : (S T V W P Q : Type 0) → Type 0
-RunsAgree S T V W P Q = (state : S → T) (value : V → W) (statement : P → Q) (M : Steps S V) (N : Steps T W)
+RunsAgree S T V W P Q = (state : S → T) (value : V → W) (statement : P → Q) (M : States S V) (N : States T W)
     (meaning : CallsOf S V → P → S → Outcome S Flow) (other : CallsOf T W → Q → T → Outcome T Flow) →
-    StepsAgree state value M N → MeaningsAgree state value statement meaning other →
+    StatesAgree state value M N → MeaningsAgree state value statement meaning other →
     (routines : List (Routine P)) (functions : List (List ℕ)) (report_of : ErrorKind → Place → List ℕ) (steps : List (Step P)) (ending : Ending) (s : S) →
     run_steps N (other (calls_of N other (map (mapped_routine statement) routines))) functions report_of (map (mapped_step statement) steps) ending (state s)
     ≡ mapped_run state (run_steps M (meaning (calls_of M meaning routines)) functions report_of steps ending s)
@@ -134,13 +134,13 @@ IsTranslation {S} {V} {P} statement meaning other = (calls : CallsOf S V) (p : P
 
 -- then the calls of functions do
 abbrev pub TranslatedFunctionsAgree : (S V P Q : Type 0) → Type 0
-TranslatedFunctionsAgree S V P Q = (statement : P → Q) (M : Steps S V) (meaning : CallsOf S V → P → S → Outcome S Flow) (other : CallsOf S V → Q → S → Outcome S Flow) →
+TranslatedFunctionsAgree S V P Q = (statement : P → Q) (M : States S V) (meaning : CallsOf S V → P → S → Outcome S Flow) (other : CallsOf S V → Q → S → Outcome S Flow) →
     IsTranslation statement meaning other → (routines : List (Routine P)) (n : ℕ) (f : List ℕ) (place : Place) (left right : Option V) (s : S) →
     call_within M other (map (mapped_routine statement) routines) n f place left right s ≡ call_within M meaning routines n f place left right s
 
 -- and so do runs
 abbrev pub TranslatedRunsAgree : (S V P Q : Type 0) → Type 0
-TranslatedRunsAgree S V P Q = (statement : P → Q) (M : Steps S V) (meaning : CallsOf S V → P → S → Outcome S Flow) (other : CallsOf S V → Q → S → Outcome S Flow) →
+TranslatedRunsAgree S V P Q = (statement : P → Q) (M : States S V) (meaning : CallsOf S V → P → S → Outcome S Flow) (other : CallsOf S V → Q → S → Outcome S Flow) →
     IsTranslation statement meaning other →
     (routines : List (Routine P)) (functions : List (List ℕ)) (report_of : ErrorKind → Place → List ℕ) (steps : List (Step P)) (ending : Ending) (s : S) →
     run_steps M (other (calls_of M other (map (mapped_routine statement) routines))) functions report_of (map (mapped_step statement) steps) ending s
@@ -150,8 +150,8 @@ TranslatedRunsAgree S V P Q = (statement : P → Q) (M : Steps S V) (meaning : C
 
 -- runs of the same trees agree where what is done with values agrees
 abbrev pub RunsOverValuesAgree : (S T V W : Type 0) → Type 0
-RunsOverValuesAgree S T V W = (state : S → T) (value : V → W) (M : Steps S V) (N : Steps T W) (values : CallsOf S V → Values S V) (others : CallsOf T W → Values T W) →
-    StepsAgree state value M N →
+RunsOverValuesAgree S T V W = (state : S → T) (value : V → W) (M : States S V) (N : States T W) (values : CallsOf S V → Values S V) (others : CallsOf T W → Values T W) →
+    StatesAgree state value M N →
     ((calls : CallsOf S V) (other : CallsOf T W) → CallsAgree state value calls other → ValuesAgree state value (values calls) (others other)) →
     (routines : List (Routine Statement)) (functions : List (List ℕ)) (report_of : ErrorKind → Place → List ℕ) (steps : List (Step Statement)) (ending : Ending) (s : S) →
     run_steps N (flow_in (others (calls_of N (λ calls. flow_in (others calls)) routines))) functions report_of steps ending (state s)

@@ -25,7 +25,7 @@ abbrev pub labels_of : {T : Type 0} → List (RoutineLine T) → List (Option (L
 labels_of body = map (λ l. l.label) body
 
 -- what turns, calls and commands do to a state of a type S, with values of a type V
-pub record Steps (S V : Type 0) : Type 0 where
+pub record States (S V : Type 0) : Type 0 where
   -- how many statements may still begin, and how many have
   pub turns : S → ℕ
   pub begun : S → ℕ
@@ -61,7 +61,7 @@ next_line k (to_line n) = n
 abbrev pub routine_of : {T : Type 0} → List (Routine T) → List ℕ → Option (Routine T)
 routine_of routines f = find (λ r. is_same_name r.header.f f) routines
 
-module _ {S V : Type 0} (M : Steps S V) where
+module _ {S V : Type 0} (M : States S V) where
   -- a statement that ended, well or by an error, is entered; one that a spent budget cut off is not
   abbrev pub entered : {A : Type 0} → ℕ → ℕ → Outcome S A → Outcome S A
   entered line number (done a s) = done a (M.end line number s)
@@ -73,10 +73,11 @@ module _ {S V : Type 0} (M : Steps S V) where
   turn line zero act s = spent s
   turn line (suc left) act s = entered line (suc (M.begun s)) (act (M.begin left s))
 
+  -- a turn of those that are left
   abbrev pub on_turn : {A : Type 0} → ℕ → (S → Outcome S A) → S → Outcome S A
   on_turn line act s = turn line (M.turns s) act s
 
-module _ {S V T : Type 0} (M : Steps S V) (meaning : CallsOf S V → T → S → Outcome S Flow) where
+module _ {S V T : Type 0} (M : States S V) (meaning : CallsOf S V → T → S → Outcome S Flow) where
   -- a line, where there is one, takes a turn and says which line is next; a number that is no line ends the call
   abbrev pub run_line : CallsOf S V → Option (RoutineLine T) → S → (Flow → S → Outcome S (Unit {0})) → Outcome S (Unit {0})
   run_line calls None s next = done tt s

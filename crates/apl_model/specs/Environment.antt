@@ -8,6 +8,7 @@ use Rattle.std.specs.Option.{option_map}
 abbrev pub Bindings : Type 0 → Type 0
 Bindings A = List (List ℕ × Option A)
 
+-- all variables of a run
 pub record Environment (A : Type 0) : Type 0 where
   pub globals : Bindings A
   -- the innermost frame first; a frame has the names that it declares
@@ -19,6 +20,7 @@ pub record Environment (A : Type 0) : Type 0 where
 abbrev pub is_same_name : List ℕ → List ℕ → Bool
 is_same_name = pointwise nat_eq
 
+-- the name stands there, bound or unset
 abbrev pub declares : {A : Type 0} → Bindings A → List ℕ → Bool
 declares bindings name = list_any (λ b. is_same_name b.0 name) bindings
 
@@ -37,6 +39,7 @@ abbrev pub found_in : {A : Type 0} → List (Bindings A) → Bindings A → List
 found_in [] globals name = bound_in globals name
 found_in (f ∷ fs) globals name = if declares f name then bound_in f name else found_in fs globals name
 
+-- what the name is bound to
 abbrev pub look_up : {A : Type 0} → Environment A → List ℕ → Option A
 look_up e name = found_in e.frames e.globals name
 
@@ -45,6 +48,7 @@ abbrev pub set_in_frames : {A : Type 0} → List (Bindings A) → List ℕ → A
 set_in_frames [] name a = []
 set_in_frames (f ∷ fs) name a = if declares f name then bound_to f name (Some a) ∷ fs else f ∷ set_in_frames fs name a
 
+-- a frame declares the name
 abbrev pub declared_in : {A : Type 0} → List (Bindings A) → List ℕ → Bool
 declared_in frames name = list_any (λ f. declares f name) frames
 
@@ -71,6 +75,7 @@ set_names bindings = filter_map (λ b. option_map (λ a. b.0) b.1) bindings
 abbrev pub with_frame : {A : Type 0} → Bindings A → Environment A → Environment A
 with_frame frame e = record e { frames = frame ∷ e.frames }
 
+-- the frames but for the innermost
 abbrev pub innermost_gone : {A : Type 0} → List (Bindings A) → List (Bindings A)
 innermost_gone [] = []
 innermost_gone (f ∷ fs) = fs
@@ -83,6 +88,7 @@ without_frame e = record e { frames = innermost_gone e.frames }
 abbrev pub without_frames : {A : Type 0} → Environment A → Environment A
 without_frames e = record e { frames = [] }
 
+-- another origin
 abbrev pub with_origin : {A : Type 0} → ℤ → Environment A → Environment A
 with_origin o e = record e { origin = o }
 
@@ -92,8 +98,10 @@ no_variables = record { globals = []; frames = []; origin = pos 1 }
 
 -- ---- seen through a map of what names are bound to
 
+-- the same names, each bound to what the function gives
 abbrev pub mapped_bindings : {A B : Type 0} → (A → B) → Bindings A → Bindings B
 mapped_bindings f bindings = map (λ b. (b.0, option_map f b.1)) bindings
 
+-- so all variables
 abbrev pub mapped : {A B : Type 0} → (A → B) → Environment A → Environment B
 mapped f e = record { globals = mapped_bindings f e.globals; frames = map (mapped_bindings f) e.frames; origin = e.origin }

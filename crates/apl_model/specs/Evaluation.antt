@@ -46,15 +46,19 @@ abbrev pub needed : Place → Option Array → State → Outcome State Array
 needed place (Some a) s = done a s
 needed place None s = fails error.Value place s
 
+-- the origin in force
 abbrev pub origin_of : State → ℤ
 origin_of s = s.variables.origin
 
+-- the state with these variables
 abbrev pub with_variables : Environment Array → State → State
 with_variables e s = record s { variables = e }
 
+-- the state with the name set
 abbrev pub with_name : List ℕ → Array → State → State
 with_name name a s = with_variables (set_name s.variables name a) s
 
+-- the state with this text printed too
 abbrev pub with_printed : List ℕ → State → State
 with_printed text s = record s { printed = s.printed ++ text }
 
@@ -66,6 +70,7 @@ literal_shape (z ∷ []) = []
 literal_shape [] = 0 ∷ []
 literal_shape (y ∷ z ∷ zs) = length (y ∷ z ∷ zs) ∷ []
 
+-- the array of a literal
 abbrev pub literal_array : Literal → Array
 literal_array l = record { kind = l.kind; shape = literal_shape l.cells; cells = l.cells }
 
@@ -115,6 +120,7 @@ branch_by true text a place s = done onwards s
 branch_by false true a place s = fails error.Domain place s
 branch_by false false a place s = done (to_line (first a)) s
 
+-- where a branch with this value goes
 abbrev pub branch_to : Place → Array → State → Outcome State Flow
 branch_to place a s = branch_by (is_empty a) (is_text a) a place s
 

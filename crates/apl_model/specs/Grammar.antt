@@ -117,6 +117,11 @@ abbrev pub IsOptionalName : Option (List ℕ) → Type 0
 IsOptionalName None = Unit {0}
 IsOptionalName (Some n) = IsTrue (is_name n)
 
+-- a label, where there is one: a name that heads no definition
+abbrev pub IsLabel : List Heading → Option (List ℕ) → Type 0
+IsLabel hs None = Unit {0}
+IsLabel hs (Some n) = IsVariable hs n
+
 -- )ERASE has one or more names, and )ORIGIN has 0 or 1
 abbrev pub IsCommand : Command → Type 0
 IsCommand command.Vars = Unit {0}

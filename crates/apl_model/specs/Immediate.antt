@@ -8,7 +8,7 @@ use Rattle.apl_base.specs.Array.{Array}
 use Rattle.apl_model.specs.declared.scripts.Command.{Command}
 use Rattle.apl_model.specs.declared.scripts.Command.TheVariants.{Vars, Fns, Erase, Origin}
 use Rattle.apl_model.specs.declared.tokens.Line.{Line}
-use Rattle.apl_model.specs.Call.{Routine, RoutineLine, Steps, calls_of, on_turn}
+use Rattle.apl_model.specs.Call.{Routine, RoutineLine, States, calls_of, on_turn}
 use Rattle.apl_model.specs.Environment.{Bindings, no_variables, set_names, erased, without_frames, with_origin}
 use Rattle.apl_model.specs.Evaluation.{State, Ended, statement_flow, with_printed, with_variables}
 use Rattle.apl_model.specs.Frames.{with_turn, with_ended, with_call, without_call, result_in}
@@ -24,13 +24,16 @@ stands_before xs [] = false
 stands_before [] (y ∷ ys) = true
 stands_before (x ∷ xs) (y ∷ ys) = if x == y then stands_before xs ys else nat_lt x y
 
+-- one name stands before another in the order of their bytes
 abbrev pub bytes_before : List ℕ → List ℕ → Bool
 bytes_before a b = stands_before (encode_utf8_all a) (encode_utf8_all b)
 
+-- a name put into names in order
 abbrev pub name_in : List ℕ → List (List ℕ) → List (List ℕ)
 name_in name [] = name ∷ []
 name_in name (n ∷ ns) = if bytes_before n name then n ∷ name_in name ns else name ∷ n ∷ ns
 
+-- the names in the order of their bytes
 abbrev pub in_byte_order : List (List ℕ) → List (List ℕ)
 in_byte_order [] = []
 in_byte_order (n ∷ ns) = name_in n (in_byte_order ns)
@@ -41,12 +44,15 @@ names_line names = join_by (λ n. n) blank (in_byte_order names) ++ newline
 
 -- ---- the script as it is run
 
+-- a line of a body as it is run
 abbrev pub routine_line : BodyLine → RoutineLine Statement
 routine_line l = record { line = l.line; label = l.label; statement = l.statement }
 
+-- a definition as it is run
 abbrev pub routine : Definition → Routine Statement
 routine d = record { header = d.header; body = map routine_line d.body }
 
+-- the definition that an item is
 abbrev pub definition_in : Item → Option Definition
 definition_in (statement_item line s) = None
 definition_in (command_item line c) = None
@@ -72,6 +78,7 @@ abbrev pub prefix_in : ℕ → List Definition → List ℕ
 prefix_in number [] = plain_prefix
 prefix_in number (d ∷ ds) = prefix_or (position (λ l. l.line == number) d.body) d.header.f (prefix_in number ds)
 
+-- the report of an error at its place in the script
 abbrev pub report : Script → ErrorKind → Place → List ℕ
 report script kind place =
     report_text kind (prefix_in place.line (definitions_of script.items)) (line_text script.lines place.line) place.column
@@ -95,12 +102,13 @@ pub data Ending : Type 0 where
   reported : Ending
   out_of_turns : Ending
 
+-- how a run ended, and the state that it left
 pub record Run (S : Type 0) : Type 0 where
   pub ending : Ending
   pub state : S
 
-module _ {S V T : Type 0} (M : Steps S V) (flow_of : T → S → Outcome S Flow) (functions : List (List ℕ)) (report_of : ErrorKind → Place → List ℕ) where
-  -- after a statement: an error prints its report, and the script goes on; a spent budget ends it
+module _ {S V T : Type 0} (M : States S V) (flow_of : T → S → Outcome S Flow) (functions : List (List ℕ)) (report_of : ErrorKind → Place → List ℕ) where
+  -- after a statement: an error prints its report, and the script goes on; a spent budget ends it. Both end all calls
   abbrev pub after_statement : {A : Type 0} → Ending → Outcome S A → (Ending → S → Run S) → Run S
   after_statement ending (done a s) next = next ending s
   after_statement ending (fails kind place s) next = next reported (M.tell (report_of kind place) (M.unwind s))
@@ -127,7 +135,7 @@ abbrev pub unwound : State → State
 unwound s = with_variables (without_frames s.variables) s
 
 -- what turns, calls and commands do to the state of a run
-abbrev pub of_states : Steps State Array
+abbrev pub of_states : States State Array
 of_states = record {
   turns = λ s. s.turns;
   begun = λ s. s.begun;
@@ -152,6 +160,7 @@ run_items script items n =
     run_steps of_states (statement_flow (calls_of of_states statement_flow (map routine definitions)))
     (map (λ d. d.header.f) definitions) (report script) (filter_map step_of items) well (beginning n)
 
+-- what comes of immediate evaluation
 pub record Immediate : Type 0 where
   pub bytes : List ℕ
   pub ending : Ending
@@ -159,6 +168,7 @@ pub record Immediate : Type 0 where
   pub origin : ℤ
   pub ended : List Ended
 
+-- what a run comes to: what is printed as bytes
 abbrev pub told : Run State → Immediate
 told r = record { bytes = encode_utf8_all r.state.printed; ending = r.ending; globals = r.state.variables.globals; origin = r.state.variables.origin; ended = r.state.ended }
 

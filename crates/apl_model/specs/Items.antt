@@ -3,7 +3,7 @@ use Rattle.std.specs.Prelude.{◌≡◌, ◌⊎◌, List, [], ◌∷◌, ◌++�
 use Rattle.std.specs.List.{AllByRecursion, IsDistinct}
 use Rattle.std.specs.Option.{option_to_list}
 use Rattle.apl_model.specs.Environment.{is_same_name}
-use Rattle.apl_model.specs.Grammar.{arguments_of, IsStatement, IsCommand, IsHeader, IsOptionalName}
+use Rattle.apl_model.specs.Grammar.{arguments_of, IsStatement, IsCommand, IsHeader, IsLabel}
 use Rattle.apl_model.specs.Script.{headings}
 use Rattle.apl_model.specs.Tree.{BodyLine, Definition, Item, statement_item, command_item, definition_item}
 use Rattle.apl_model.specs.declared.scripts.Command.{Command}
@@ -24,7 +24,7 @@ abbrev pub names_of_definition : Definition → List (List ℕ)
 names_of_definition d = option_to_list d.header.result ++ (option_to_list d.header.left ++ (d.header.f ∷ (option_to_list d.header.right ++ (d.header.locals ++ labels d.body))))
 
 pub record IsLawfulLine (hs : List Heading) (b : BodyLine) : Type 0 where
-  pub label : IsOptionalName b.label
+  pub label : IsLabel hs b.label
   pub statement : IsStatement hs b.statement
 
 -- a definition is well formed where its names differ, and none of them but its function's own heads a definition

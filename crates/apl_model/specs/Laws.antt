@@ -1,12 +1,13 @@
 -- What holds of the definitions of lines, trees and refusals. Each law is the contract of a function in src/laws.
-use Rattle.std.specs.Prelude.{◌≡◌, ℕ, ◌↔◌, List, Option}
+use Rattle.std.specs.Prelude.{◌≡◌, ℕ, ◌-◌, ◌<◌, ◌≤◌, ◌↔◌, List, [], ◌∷◌, take, drop, Option}
+use Rattle.std.specs.List.{IsAmong}
 use Rattle.apl_base.specs.declared.faults.Refusal.{Refusal}
 use Rattle.apl_model.specs.Grammar.{IsExpression, IsStatement, IsHeader}
 use Rattle.apl_model.specs.Items.{AreLawful}
-use Rattle.apl_model.specs.Refusal.{IsReadingRefusal, IsLineRefusal, IsRefusal, IsFirst, IsAccepted}
+use Rattle.apl_model.specs.Refusal.{LineKind, StopsAt, IsReadingRefusal, IsLineRefusal, IsRefusal, IsFirst, IsAccepted}
 use Rattle.apl_model.specs.Script.{IsScript}
 use Rattle.apl_model.specs.Spelling.{Spell, spelling, statement_spelling, body_spelling, command_spelling, header_spelling}
-use Rattle.apl_model.specs.Tokens.{IsRead}
+use Rattle.apl_model.specs.Tokens.{pieces_after, tokens_of_pieces, AreSound, IsRead}
 use Rattle.apl_model.specs.Tree.{Tree, Statement, Script}
 use Rattle.apl_model.specs.declared.scripts.Command.{Command}
 use Rattle.apl_model.specs.declared.scripts.Header.{Header}
@@ -17,6 +18,28 @@ use Rattle.apl_model.specs.declared.tokens.Token.{Token}
 -- a line has at most one list of tokens
 abbrev pub OneListOfTokens : Type 0
 OneListOfTokens = (line : List ℕ) (a b : List Token) → IsRead line a → IsRead line b → a ≡ b
+
+-- tokens stand in order from a column on: each covers a column at least, and none covers one of another
+abbrev pub StandInOrder : ℕ → List Token → Type 0
+StandInOrder column [] = Unit {0}
+StandInOrder column (t ∷ ts) = (column ≤ t.from) × (t.from < t.past) × StandInOrder t.past ts
+
+-- the tokens of a line stand in order
+abbrev pub TokensInOrder : Type 0
+TokensInOrder = (line : List ℕ) (ts : List Token) → IsRead line ts → StandInOrder 1 ts
+
+-- the characters of a line in the columns of a token
+abbrev pub slice_of : List ℕ → Token → List ℕ
+slice_of line t = take (t.past - t.from) (drop (t.from - 1) line)
+
+-- each token's text is its slice of the line: read from the token's column on, it is that token alone, without a fault
+abbrev pub TokensAreSlices : Type 0
+TokensAreSlices = (line : List ℕ) (ts : List Token) (t : Token) → IsRead line ts → IsAmong ts t →
+    let ps = pieces_after 0 t.from (slice_of line t) in AreSound ps × (tokens_of_pieces ps ≡ t ∷ [])
+
+-- at most one column stops a line
+abbrev pub OneStop : Type 0
+OneStop = (kind : LineKind) (hs : List Heading) (n : ℕ) (ts : List Token) (j k : ℕ) → StopsAt kind hs n ts j → StopsAt kind hs n ts k → j ≡ k
 
 -- two expressions of the language that spell the same tokens are equal
 abbrev pub OneExpression : Type 0

@@ -18,6 +18,7 @@ pub mod Order
 pub mod Outcome
 pub mod Printed
 pub mod Product
+pub mod ReadFaults
 pub mod Refusal
 pub mod Script
 pub mod Spelling

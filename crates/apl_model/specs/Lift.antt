@@ -22,6 +22,7 @@ shape_by false true false ls rs = Ok rs
 shape_by false false true ls rs = Ok ls
 shape_by false false false ls rs = Err (if length ls == length rs then error.Length else error.Rank)
 
+-- the shape of `A f B` from the lengths of A and B
 abbrev pub fitting_shape : List ℕ → List ℕ → Result (List ℕ) ErrorKind
 fitting_shape ls rs = shape_by (pointwise nat_eq ls rs) (size_of ls == 1) (size_of rs == 1) ls rs
 
@@ -30,6 +31,7 @@ abbrev pub spread : Bool → ℕ → Array → List Elem
 spread true n a = replicate n (element a.kind (first a))
 spread false n a = elements a
 
+-- the elements of an operand for n places
 abbrev pub spread_to : ℕ → Array → List Elem
 spread_to n a = spread (is_single a) n a
 
@@ -42,6 +44,7 @@ abbrev pub lift_pairs : Dya → List ℕ → Array → Array → Answer
 lift_pairs f ns a b =
     or_domain (all_defined (map (λ p. scalar2 f p.0 p.1) (zip (spread_to (size_of ns) a) (spread_to (size_of ns) b)))) (numbers ns)
 
+-- over the shape that both fit, if there is one
 abbrev pub lift_over : Dya → Array → Array → Result (List ℕ) ErrorKind → Answer
 lift_over f a b (Ok ns) = lift_pairs f ns a b
 lift_over f a b (Err e) = Err e

@@ -26,6 +26,7 @@ use Rattle.apl_model.specs.Whole.{Answer, rank, count, is_single, is_empty, is_t
 abbrev pub counted_from : ℤ → ℕ → ℤ
 counted_from o p = o +ℤ pos p
 
+-- more than one axis
 abbrev pub is_above_one : Array → Bool
 is_above_one a = nat_lt 1 (rank a)
 
@@ -33,10 +34,11 @@ is_above_one a = nat_lt 1 (rank a)
 abbrev pub are_counts : Array → Bool
 are_counts a = not (is_text a) && list_all (int_le (pos 0)) a.cells
 
--- each value is 0 or 1
+-- 0 or 1
 abbrev pub is_bit : ℤ → Bool
 is_bit z = int_eq z (pos 0) || int_eq z (pos 1)
 
+-- each value is 0 or 1
 abbrev pub are_bits : Array → Bool
 are_bits a = not (is_text a) && list_all is_bit a.cells
 
@@ -48,8 +50,9 @@ on_axis o Last r make = make (r - 1)
 on_axis o First r make = make 0
 on_axis o (Numbered k) r make = error_if error.Rank (not (int_le o k && int_lt k (o +ℤ pos r))) (make (unsigned_abs (k -ℤ o)))
 
--- ---- ⍳B: the numbers from o up, B of them
+-- ---- ⍳B
 
+-- the numbers from o up, B of them
 abbrev pub interval : ℤ → Array → Answer
 interval o b =
     error_if error.Rank (is_above_one b)
@@ -57,13 +60,15 @@ interval o b =
     (error_if error.Domain (not (are_counts b))
     (within_limit (unsigned_abs (first b) ∷ []) (λ _. Ok (vector Num (map (counted_from o) (upward 0 (unsigned_abs (first b)))))))))
 
--- ---- ⍴B: the lengths
+-- ---- ⍴B
 
+-- the lengths
 abbrev pub shape_of : Array → Answer
 shape_of b = Ok (vector Num (map pos b.shape))
 
--- ---- A⍴B: the elements of B in the shape A, repeated as needed
+-- ---- A⍴B
 
+-- the elements of B in the shape A, repeated as needed
 abbrev pub reshape : Array → Array → Answer
 reshape a b =
     let ns = map unsigned_abs a.cells in
@@ -72,8 +77,9 @@ reshape a b =
     (error_if error.Domain (not (are_counts a))
     (within_limit ns (λ _. Ok (record { kind = b.kind; shape = ns; cells = map (λ p. slice_index_or b.cells (p % count b) (pos 0)) (upward 0 (size_of ns)) })))))
 
--- ---- ,B: the elements as a vector
+-- ---- ,B
 
+-- the elements as a vector
 abbrev pub ravel : Array → Answer
 ravel b = Ok (vector b.kind b.cells)
 
@@ -83,17 +89,20 @@ ravel b = Ok (vector b.kind b.cells)
 abbrev pub joined_kind : Array → Array → Kind
 joined_kind a b = if is_empty a && not (is_empty b) then b.kind else a.kind
 
+-- both have elements, of two kinds
 abbrev pub kinds_differ : Array → Array → Bool
 kinds_differ a b = not (is_empty a) && not (is_empty b) && not (is_same_kind a.kind b.kind)
 
+-- `A,B`
 abbrev pub catenate : Array → Array → Answer
 catenate a b =
     error_if error.Rank (is_above_one a || is_above_one b)
     (error_if error.Domain (kinds_differ a b)
     (within_limit ((count a + count b) ∷ []) (λ _. Ok (vector (joined_kind a b) (a.cells ++ b.cells)))))
 
--- ---- ⌽B, ⌽[K]B, ⊖B: reversed along the axis
+-- ---- ⌽B, ⌽[K]B, ⊖B
 
+-- reversed along the axis
 abbrev pub reversed : ℤ → Axis → Array → Answer
 reversed o axis b = on_axis o axis (rank b) (λ k. Ok (gathered b.shape (reverse_index b.shape k) b))
 
@@ -103,9 +112,11 @@ reversed o axis b = on_axis o axis (rank b) (λ k. Ok (gathered b.shape (reverse
 abbrev pub turn : Array → ℕ → List ℕ → ℤ
 turn a axis is = if is_single a then first a else cell_at a (remove is axis)
 
+-- the index with its number on the axis turned by so many places
 abbrev pub turned_index : List ℕ → ℕ → ℤ → List ℕ → List ℕ
 turned_index ns axis by is = slice_set is axis (unsigned_abs (int_rem_euclid (pos (slice_index is axis) +ℤ by) (pos (slice_index ns axis))))
 
+-- `A⌽B`
 abbrev pub rotated : ℤ → Axis → Array → Array → Answer
 rotated o axis a b = on_axis o axis (rank b) (λ k.
     error_if error.Rank (not (is_single a) && not (rank a + 1 == rank b))
@@ -113,8 +124,9 @@ rotated o axis a b = on_axis o axis (rank b) (λ k.
     (error_if error.Domain (is_text a)
     (Ok (gathered b.shape (λ is. turned_index b.shape k (turn a k is) is) b)))))
 
--- ---- ⍉B: the axes in reverse order (own)
+-- ---- ⍉B
 
+-- the axes in reverse order (own)
 abbrev pub flipped : Array → Answer
 flipped b = Ok (gathered (reverse b.shape) reverse b)
 
@@ -124,13 +136,15 @@ flipped b = Ok (gathered (reverse b.shape) reverse b)
 abbrev pub less_origin : ℤ → Array → List ℤ
 less_origin o a = map (λ z. z -ℤ o) a.cells
 
--- exactly 0 to k - 1 for some k: none is below 0, and with each but 0 there is the number before it
+-- 0, or a number above it with the one before it among them
 abbrev pub is_axis_among : List ℤ → ℤ → Bool
 is_axis_among zs z = int_le (pos 0) z && (int_eq z (pos 0) || list_any (int_eq (z -ℤ pos 1)) zs)
 
+-- exactly 0 to k - 1 for some k: none is below 0, and with each but 0 there is the number before it
 abbrev pub are_axes : List ℤ → Bool
 are_axes zs = list_all (is_axis_among zs) zs
 
+-- `A⍉B`
 abbrev pub transposed : ℤ → Array → Array → Answer
 transposed o a b =
     let axes = map unsigned_abs (less_origin o a) in
@@ -150,17 +164,21 @@ abbrev pub taken_place : ℕ → ℤ → ℕ → Option ℕ
 taken_place n (pos a) i = if nat_lt i n then Some i else None
 taken_place n (negsuc a) i = if nat_le (suc a) (n + i) then Some (n + i - suc a) else None
 
+-- and so for each axis, where all do
 abbrev pub taken_places : List ℕ → List ℤ → List ℕ → List (Option ℕ)
 taken_places (n ∷ ns) (a ∷ counts) (i ∷ is) = taken_place n a i ∷ taken_places ns counts is
 taken_places ns counts is = []
 
+-- the cell at an index, or what fills
 abbrev pub read_or_fill : Array → Option (List ℕ) → ℤ
 read_or_fill b (Some i) = cell_at b i
 read_or_fill b None = fill b.kind
 
+-- the same cells in another shape
 abbrev pub with_shape : Array → List ℕ → Array
 with_shape b ns = record { kind = b.kind; shape = ns; cells = b.cells }
 
+-- `A↑B`
 abbrev pub take_or_pad : Array → Array → Answer
 take_or_pad a b =
     let ns = taken_shape a b in
@@ -170,8 +188,9 @@ take_or_pad a b =
     (within_limit (map unsigned_abs a.cells) (λ _.
     Ok (tabulated b.kind (map unsigned_abs a.cells) (λ is. read_or_fill (with_shape b ns) (all_defined (taken_places ns a.cells is))))))))
 
--- ---- A↓B: without the first a of each axis, or without the last
+-- ---- A↓B
 
+-- without the first a of each axis, or without the last
 abbrev pub drop_from : Array → Array → Answer
 drop_from a b =
     let ns = taken_shape a b in
@@ -181,20 +200,23 @@ drop_from a b =
     (within_limit (drop_shape ns a.cells) (λ _.
     Ok (gathered (drop_shape ns a.cells) (drop_index ns a.cells) (with_shape b ns))))))
 
--- ---- A⍳B: for each element of B, o and the number of elements of A before its first place in A
+-- ---- A⍳B
 
+-- for each element of B, o and the number of elements of A before its first place in A
 abbrev pub index_of : ℤ → Array → Array → Answer
 index_of o a b =
     error_if error.Rank (not (rank a == 1))
     (Ok (record { kind = Num; shape = b.shape; cells = map (λ e. counted_from o (position_or_len (is_same e) (elements a))) (elements b) }))
 
--- ---- A∈B: for each element of A 1 where it is in B, else 0
+-- ---- A∈B
 
+-- for each element of A 1 where it is in B, else 0
 abbrev pub member : Array → Array → Answer
 member a b = Ok (record { kind = Num; shape = a.shape; cells = map (λ e. truth (list_any (is_same e) (elements b))) (elements a) })
 
 -- ---- ⍋B, ⍒B: the places, counted from o, in rising or falling order; equals keep their order
 
+-- which of two cells comes first
 abbrev pub comes_first : Bool → ℤ → ℤ → Bool
 comes_first false x y = int_lt x y
 comes_first true x y = int_lt y x
@@ -206,10 +228,12 @@ place_in down cells p [] = p ∷ []
 place_in down cells p (q ∷ qs) =
     if comes_first down (slice_index_or cells q (pos 0)) (slice_index_or cells p (pos 0)) then q ∷ place_in down cells p qs else p ∷ q ∷ qs
 
+-- places in order
 abbrev pub in_order : Bool → List ℤ → List ℕ → List ℕ
 in_order down cells [] = []
 in_order down cells (p ∷ ps) = place_in down cells p (in_order down cells ps)
 
+-- `⍋B`, and `⍒B` where it goes down
 abbrev pub grade : Bool → ℤ → Array → Answer
 grade down o b =
     error_if error.Rank (not (rank b == 1))
@@ -227,6 +251,7 @@ ones_from p (a ∷ bits) = if int_eq a (pos 1) then p ∷ ones_from (suc p) bits
 abbrev pub extended_to : ℕ → Array → Array
 extended_to n b = if is_extendable b then vector b.kind (replicate n (first b)) else b
 
+-- the array that is left along the axis
 abbrev pub compressed : ℕ → List ℤ → Array → Array
 compressed axis bits b =
     let places = ones_from 0 bits in
@@ -236,6 +261,7 @@ compressed axis bits b =
 abbrev pub bits_along : ℕ → Array → List ℤ
 bits_along n a = if is_single a then replicate n (first a) else a.cells
 
+-- `A/B`
 abbrev pub compress : ℤ → Axis → Array → Array → Answer
 compress o axis a b =
     error_if error.Rank (is_above_one a)
@@ -245,8 +271,10 @@ compress o axis a b =
     (error_if error.Domain (not (are_bits a))
     (Ok (compressed k (bits_along (slice_index c.shape k) a) c)))))
 
--- ---- A\B, A\[K]B, A⍀B: along the axis the next element of B where A is 1, else 0 or a blank
+-- ---- A\B, A\[K]B, A⍀B
 
+-- along the axis the next element of B where A is 1, else 0 or a blank
+-- how many ones there are
 abbrev pub ones : List ℤ → ℕ
 ones bits = length (ones_from 0 bits)
 
@@ -256,11 +284,13 @@ spaced axis bits is =
     let i = slice_index is axis in
     if int_eq (slice_index_or bits i (pos 0)) (pos 1) then Some (slice_set is axis (ones (take i bits))) else None
 
+-- the array that is spread along the axis
 abbrev pub expanded : ℕ → List ℤ → Array → Answer
 expanded axis bits b =
     let ns = slice_set b.shape axis (length bits) in
     within_limit ns (λ _. Ok (tabulated b.kind ns (λ is. read_or_fill b (spaced axis bits is))))
 
+-- `A\B`
 abbrev pub expand : ℤ → Axis → Array → Array → Answer
 expand o axis a b =
     error_if error.Rank (is_above_one a)
@@ -275,6 +305,7 @@ expand o axis a b =
 abbrev pub carried : ℤ → ℤ → ℤ
 carried a b = if int_eq a (pos 0) then pos 0 else int_div_euclid b (pos (unsigned_abs a))
 
+-- one digit more to the left
 abbrev pub cons_digit : ℤ → Option (List ℤ × ℤ) → Option (List ℤ × ℤ)
 cons_digit a None = None
 cons_digit a (Some s) = option_map (λ d. (d ∷ s.0, carried a s.1)) (residue a s.1)
@@ -288,9 +319,11 @@ digits (a ∷ bases) b = cons_digit a (digits bases b)
 abbrev pub digit_rows : List ℤ → List (List ℤ) → ℕ → List ℤ
 digit_rows bases columns i = map (λ ds. slice_index_or ds i (pos 0)) columns
 
+-- the digits of each element of B
 abbrev pub columns_of : Array → Array → Option (List (List ℤ))
 columns_of a b = all_defined (map (λ z. option_map (λ s. s.0) (digits a.cells z)) b.cells)
 
+-- `A⊤B`
 abbrev pub encode : Array → Array → Answer
 encode a b =
     let ns = a.shape ++ b.shape in
@@ -299,8 +332,10 @@ encode a b =
     error_if error.Domain (is_text a || is_text b)
     (or_domain (columns_of a b) (λ columns. record { kind = Num; shape = ns; cells = flat_map (digit_rows a.cells columns) (upward 0 (count a)) }))))
 
--- ---- A⊥B: r begins at 0, and for each place becomes (r×a)+b
+-- ---- A⊥B
 
+-- r begins at 0, and for each place becomes (r×a)+b
+-- the number so far, and what the bases and digits that are left make of it
 abbrev pub decoded : Option ℤ → List ℤ → List ℤ → Option ℤ
 decoded r (a ∷ bases) (b ∷ ds) = decoded (option_and_then (λ n. option_and_then (λ m. in_range (m +ℤ b)) (in_range (n *ℤ a))) r) bases ds
 decoded r bases ds = r
@@ -309,6 +344,7 @@ decoded r bases ds = r
 abbrev pub matched : Array → ℕ → List ℤ
 matched a n = if is_single a then replicate n (first a) else a.cells
 
+-- `A⊥B`
 abbrev pub decode : Array → Array → Answer
 decode a b =
     let n = if is_single a then count b else count a in

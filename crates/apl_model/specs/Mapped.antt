@@ -1,7 +1,9 @@
 -- What is done with variables is the same before a function of what names are bound to as after it.
-use Rattle.std.specs.Prelude.{◌≡◌, ℕ, ℤ, List}
+use Rattle.std.specs.Prelude.{◌≡◌, ℕ, ℤ, List, Option}
 use Rattle.std.specs.Option.{option_map}
+use Rattle.apl_model.specs.declared.scripts.Header.{Header}
 use Rattle.apl_model.specs.Environment.{Bindings, Environment, look_up, set_name, erased, set_names, with_frame, without_frame, without_frames, with_origin, no_variables, mapped, mapped_bindings}
+use Rattle.apl_model.specs.Frames.{frame_of, result_in}
 
 -- what a name is bound to
 abbrev pub LookUpIsMapped : Type 0 → Type 0 → Type 0
@@ -38,3 +40,12 @@ WithOriginIsMapped A B = (f : A → B) (o : ℤ) (e : Environment A) → with_or
 -- no variables
 abbrev pub NoVariablesAreMapped : Type 0 → Type 0 → Type 0
 NoVariablesAreMapped A B = (f : A → B) → mapped f no_variables ≡ no_variables
+
+-- the frame of a call
+abbrev pub FrameIsMapped : Type 0 → Type 0 → Type 0
+FrameIsMapped A B = (f : A → B) (number : ℕ → A) (header : Header) (labels : List (Option (List ℕ))) (left right : Option A) →
+    frame_of (λ k. f (number k)) header labels (option_map f left) (option_map f right) ≡ mapped_bindings f (frame_of number header labels left right)
+
+-- the value of the result's name
+abbrev pub ResultIsMapped : Type 0 → Type 0 → Type 0
+ResultIsMapped A B = (f : A → B) (e : Environment A) (name : Option (List ℕ)) → result_in (mapped f e) name ≡ option_map f (result_in e name)

@@ -16,19 +16,23 @@ CallsOf S V = List ℕ → Place → Option V → Option V → S → Outcome S (
 
 -- what is done with values of a type V at states of a type S. A position that is left out is no value
 pub record Values (S V : Type 0) : Type 0 where
+  -- a literal; the value of a name
   pub literal : Literal → S → Outcome S V
   pub name : List ℕ → Place → S → Outcome S V
   -- a function of one argument; one of two, with the left argument first
   pub apply1 : MonFn → V → Place → S → Outcome S V
   pub apply2 : DyaFn → V → V → Place → S → Outcome S V
+  -- a reduction along an axis; products, with the left argument first
   pub reduce : Dya → Axis → V → Place → S → Outcome S V
   pub outer : Dya → V → V → Place → S → Outcome S V
   pub inner : Dya → Dya → V → V → Place → S → Outcome S V
   -- a subscript: the array and its positions
   pub index : V → List (Option V) → Place → S → Outcome S V
+  -- an assignment: the name, and what is assigned
   pub assign : List ℕ → V → S → Outcome S V
   -- an indexed assignment: the name, its positions, and what is assigned
   pub replace : List ℕ → List (Option V) → V → Place → S → Outcome S V
+  -- a call of a function
   pub calls : CallsOf S V
   -- an output
   pub print : V → S → Outcome S V
@@ -79,6 +83,7 @@ module _ {S V : Type 0} (M : Values S V) where
     positions_in no_position s = done [] s
     positions_in (position q qs) s = and_then (positions_in qs s) (λ vs t. and_then (argument_in q t) (λ v u. done (v ∷ vs) u))
 
+  -- a value is shown
   abbrev pub show_value : V → S → Outcome S Flow
   show_value v s = M.show (Some v) s
 
@@ -92,6 +97,7 @@ module _ {S V : Type 0} (M : Values S V) where
   expression_in (output value place) s = and_then (value_in (output value place) s) silently
   expression_in t s = and_then (value_in t s) show_value
 
+  -- a statement, and where the run goes: an empty one goes on
   abbrev pub flow_in : Statement → S → Outcome S Flow
   flow_in nothing s = done onwards s
   flow_in (branch value place) s = and_then (value_in value s) (M.branch place)

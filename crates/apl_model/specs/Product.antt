@@ -21,6 +21,7 @@ reduced f [] = option_map number (identity_of f)
 reduced f (b ∷ []) = Some b
 reduced f (b ∷ c ∷ bs) = option_and_then (scalar2 f b) (reduced f (c ∷ bs))
 
+-- the element at an index
 abbrev pub elem_at : Array → List ℕ → Elem
 elem_at b i = element b.kind (cell_at b i)
 
@@ -45,6 +46,7 @@ reduce o f axis b = on_axis o axis (rank b) (reduce_at f b)
 
 -- ---- outer product: each pair of an element of A and one of B
 
+-- `A∘.f B`
 abbrev pub outer : Dya → Array → Array → Answer
 outer f a b =
     let ns = a.shape ++ b.shape in
@@ -57,12 +59,15 @@ outer f a b =
 abbrev pub left_axes : Array → List ℕ
 left_axes a = if is_extendable a then [] else take (rank a - 1) a.shape
 
+-- and the axes that B gives
 abbrev pub right_axes : Array → List ℕ
 right_axes b = if is_extendable b then [] else drop 1 b.shape
 
+-- how long A's last axis is
 abbrev pub left_length : Array → ℕ
 left_length a = slice_index a.shape (rank a - 1)
 
+-- and B's first one
 abbrev pub right_length : Array → ℕ
 right_length b = slice_index b.shape 0
 
@@ -70,9 +75,11 @@ right_length b = slice_index b.shape 0
 abbrev pub inner_length : Array → Array → ℕ
 inner_length a b = if is_extendable a then (if is_extendable b then 1 else right_length b) else left_length a
 
+-- the element of A for the row `is` and place k of the axis that goes
 abbrev pub left_at : Array → List ℕ → ℕ → Elem
 left_at a is k = if is_extendable a then element a.kind (first a) else elem_at a (is ++ k ∷ [])
 
+-- the element of B for the column `is` and place k
 abbrev pub right_at : Array → List ℕ → ℕ → Elem
 right_at b is k = if is_extendable b then element b.kind (first b) else elem_at b (k ∷ is)
 
@@ -81,6 +88,7 @@ abbrev pub inner_at : Dya → Dya → Array → Array → List ℕ → List ℕ 
 inner_at f g a b is js =
     option_and_then (reduced f) (all_defined (map (λ k. scalar2 g (left_at a is k) (right_at b js k)) (upward 0 (inner_length a b))))
 
+-- `A f.g B`
 abbrev pub inner : Dya → Dya → Array → Array → Answer
 inner f g a b =
     let ls = left_axes a in

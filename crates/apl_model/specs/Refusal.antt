@@ -1,15 +1,16 @@
 -- The refusals of a script, the first of them, and the scripts that are accepted.
-use Rattle.std.specs.Prelude.{◌≡◌, ℕ, ◌+◌, ◌*◌, ◌-◌, ◌<◌, ◌≤◌, ◌^◌, ◌==◌, ◌⊎◌, true, false, if◌then◌else◌, nat_lt, List, [], ◌∷◌, ◌++◌, length, codes, slice_get, Option, Some, None}
+use Rattle.std.specs.Prelude.{◌≡◌, ℕ, zero, suc, ◌+◌, ◌<◌, ◌≤◌, ◌==◌, ◌&&◌, ◌⊎◌, true, false, if◌then◌else◌, nat_lt, List, [], ◌∷◌, ◌++◌, length, slice_get, Option, Some, None}
 use Rattle.std.specs.List.{IsAmong}
 use Rattle.std.specs.Str.Lossy.{utf8_valid_len}
 use Rattle.apl_base.specs.declared.faults.Cause.{Cause}
 use Rattle.apl_base.specs.declared.faults.Cause.TheVariants as cause
 use Rattle.apl_base.specs.declared.faults.Refusal.{Refusal}
+use Rattle.apl_base.specs.declared.faults.TheConstants.{MOST_BYTES}
 use Rattle.apl_model.specs.Characters.{is_one_of}
-use Rattle.apl_model.specs.Grammar.{IsStatement, IsCommand, IsHeader, IsOptionalName}
+use Rattle.apl_model.specs.Grammar.{IsStatement, IsCommand, IsHeader, IsLabel}
 use Rattle.apl_model.specs.Lines.{readable, without_mark, lines_of}
-use Rattle.apl_model.specs.Script.{is_glyph_token, Part, alone, defined, parts, closes, heading_of, IsHeadOf, count, IsScript}
-use Rattle.apl_model.specs.Spelling.{Spell, statement_spelling, body_spelling, command_spelling, header_spelling}
+use Rattle.apl_model.specs.Script.{is_glyph_token, is_name_token, Part, alone, defined, parts, closes, heading_of, IsHeadOf, IsScript}
+use Rattle.apl_model.specs.Spelling.{Spell, statement_spelling, body_spelling, command_spelling, before_own_name, header_spelling}
 use Rattle.apl_model.specs.Tokens.{Piece, pieces, IsRead, fault}
 use Rattle.apl_model.specs.Tree.{Statement, Script}
 use Rattle.apl_model.specs.declared.scripts.Command.{Command}
@@ -58,7 +59,7 @@ IsLawful outside hs n ts =
     ((s : Statement) × IsStatement hs s × Spell n (statement_spelling s) ts) ⊎
     ((c : Command) × IsCommand c × Spell n (command_spelling c) ts)
 IsLawful in_body hs n ts =
-    (label : Option (List ℕ)) × (s : Statement) × IsOptionalName label × IsStatement hs s × Spell n (body_spelling label s) ts
+    (label : Option (List ℕ)) × (s : Statement) × IsLabel hs label × IsStatement hs s × Spell n (body_spelling label s) ts
 IsLawful first_line hs n ts = (h : Header) × IsHeader h × Spell n (header_spelling h) ts
 IsLawful by_itself hs n ts = (s : Statement) × IsStatement hs s × Spell n (statement_spelling s) ts
 
@@ -157,16 +158,19 @@ labels_in (l ∷ ls) = label_in l.number l.tokens ++ labels_in ls
 abbrev pub declared_in : Line → List Line → List Occurrence
 declared_in first body = names_in first.number first.tokens ++ labels_in body
 
--- how many tokens of a header stand before the function's own name: ∇, the result with its ←, the left argument
-abbrev pub before_own_name : Header → ℕ
-before_own_name h = 1 + 2 * count h.result + count h.left
+-- the names that )ERASE erases: those behind it
+abbrev pub erased_in : ℕ → List Token → List Occurrence
+erased_in n [] = []
+erased_in n (t ∷ []) = []
+erased_in n (t ∷ u ∷ ts) =
+    if is_glyph_token ")" t && is_name_token "ERASE" u then names_in n ts else []
 
 -- a name that comes a second time
 pub data IsDoubleName (ls : List Line) (r : Refusal) : Type 0 where
   -- the second heading of a function
   second_heading : (before after : List Part) (first : Line) (body : List Line) (last : Option Line) (h : Header) (t : Token) →
       parts ls ≡ before ++ (defined first body last ∷ after) → IsHeadOf first h → Heads before h.f →
-      slice_get first.tokens (before_own_name h) ≡ Some t →
+      slice_get first.tokens (length (before_own_name h)) ≡ Some t →
       r ≡ refusal cause.DoubleName first.number t.from → IsDoubleName ls r
   -- the second occurrence of a name in a definition
   second_occurrence : (first : Line) (body : List Line) (h : Header) (before after : List Occurrence) (o p : Occurrence) →
@@ -180,10 +184,8 @@ pub data IsNameClass (ls : List Line) (r : Refusal) : Type 0 where
       l.tokens ≡ before ++ (t ∷ u ∷ after) → t.word ≡ word.Name n → is_glyph_token "←" u ≡ true → Heads (parts ls) n →
       r ≡ refusal cause.NameClass l.number t.from → IsNameClass ls r
   -- named by )ERASE
-  erased : (l : Line) (before after : List Token) (t u v : Token) (n : List ℕ) → IsLineOf ls outside l →
-      l.tokens ≡ t ∷ u ∷ (before ++ (v ∷ after)) → is_glyph_token ")" t ≡ true → u.word ≡ word.Name (codes "ERASE") →
-      v.word ≡ word.Name n → Heads (parts ls) n →
-      r ≡ refusal cause.NameClass l.number v.from → IsNameClass ls r
+  erased : (l : Line) (o : Occurrence) → IsLineOf ls outside l → IsAmong (erased_in l.number l.tokens) o → Heads (parts ls) o.name →
+      r ≡ refusal cause.NameClass o.line o.column → IsNameClass ls r
   -- declared as result, argument, local or label by another definition
   declared : (first : Line) (body : List Line) (h : Header) (o : Occurrence) →
       IsDefined (parts ls) first body h → IsAmong (declared_in first body) o → ¬ (o.name ≡ h.f) → Heads (parts ls) o.name →
@@ -191,10 +193,15 @@ pub data IsNameClass (ls : List Line) (r : Refusal) : Type 0 where
 
 -- ---- Depth and grammar ----
 
+-- a closing one ends an open one, and nothing where none is open
+abbrev pub one_closed : ℕ → ℕ
+one_closed zero = zero
+one_closed (suc d) = d
+
 -- how many parentheses and brackets are open after a token
 abbrev pub depth_after : ℕ → Token → ℕ
 depth_after d t = elim (t.word) [
-  | word.Glyph c ↦ if is_one_of "([" c then d + 1 else (if is_one_of ")]" c then d - 1 else d)
+  | word.Glyph c ↦ if is_one_of "([" c then suc d else (if is_one_of ")]" c then one_closed d else d)
   | _ ↦ d
 ]
 
@@ -236,7 +243,7 @@ pub data IsLineRefusal (ls : List Line) (r : Refusal) : Type 0 where
 
 -- a refusal of a script of bytes
 pub data IsRefusal (bytes : List ℕ) (r : Refusal) : Type 0 where
-  too_long : 2 ^ 20 < length bytes → r ≡ refusal cause.TooLong 0 0 → IsRefusal bytes r
+  too_long : MOST_BYTES < length bytes → r ≡ refusal cause.TooLong 0 0 → IsRefusal bytes r
   of_reading : IsReadingRefusal bytes r → IsRefusal bytes r
   of_lines : IsLineRefusal (lines_of bytes) r → IsRefusal bytes r
 
@@ -288,12 +295,17 @@ pub record IsFirst (Refuses : Refusal → Type 0) (r : Refusal) : Type 0 where
   pub refuses : Refuses r
   pub first : (other : Refusal) → Refuses other → IsNotAfter (order r) (order other)
 
+-- the first of the refusals that there are, or none where there is none
+abbrev pub IsFirstIfAny : (Refusal → Type 0) → Option Refusal → Type 0
+IsFirstIfAny Refuses None = (r : Refusal) → ¬ (Refuses r)
+IsFirstIfAny Refuses (Some r) = IsFirst Refuses r
+
 -- ---- Accepted scripts ----
 
--- an accepted script of bytes has at most 2^20 of them, all of them UTF-8; each line has at most 1,000
+-- an accepted script of bytes has at most MOST_BYTES of them, all of them UTF-8; each line has at most 1,000
 -- characters and is read; the lines have a tree; no line is too deep, and the rules of names are kept
 pub record IsAccepted (bytes : List ℕ) (s : Script) : Type 0 where
-  pub short : length bytes ≤ 2 ^ 20
+  pub short : length bytes ≤ MOST_BYTES
   pub whole : utf8_valid_len bytes ≡ length bytes
   pub lines : (l : Line) → IsAmong (lines_of bytes) l → (length l.text ≤ 1000) × IsRead l.text l.tokens
   pub tree : IsScript (lines_of bytes) s

@@ -1,9 +1,10 @@
 -- What the lines of a script are: statements, commands and definitions.
-use Rattle.std.specs.Prelude.{◌≡◌, ℕ, ◌+◌, ◌==◌, true, false, Bool, List, [], ◌∷◌, Option, Some, None}
+use Rattle.std.specs.Prelude.{◌≡◌, ℕ, ◌+◌, ◌==◌, true, false, Bool, List, [], ◌∷◌, Option, Some, None, codes}
 use Rattle.std.specs.List.{AllZip}
 use Prim.Native.String.{String}
 use Rattle.apl_model.specs.Characters.{code}
-use Rattle.apl_model.specs.Grammar.{IsStatement, IsCommand, IsHeader, IsOptionalName}
+use Rattle.apl_model.specs.Environment.{is_same_name}
+use Rattle.apl_model.specs.Grammar.{IsStatement, IsCommand, IsHeader, IsLabel}
 use Rattle.apl_model.specs.Spelling.{Spell, statement_spelling, body_spelling, command_spelling, header_spelling}
 use Rattle.apl_model.specs.Tree.{Statement, BodyLine, Definition, Item, statement_item, command_item, definition_item, Script}
 use Rattle.apl_model.specs.declared.scripts.Command.{Command}
@@ -13,9 +14,21 @@ use Rattle.apl_model.specs.declared.tokens.Line.{Line}
 use Rattle.apl_model.specs.declared.tokens.Token.{Token}
 use Rattle.apl_model.specs.declared.tokens.Word.TheVariants as word
 
+-- whether a token is the glyph of this code
+abbrev pub has_glyph : ℕ → Token → Bool
+has_glyph glyph t = elim (t.word) [ word.Glyph c ↦ c == glyph | _ ↦ false ]
+
 -- whether a token is this glyph
 abbrev pub is_glyph_token : String → Token → Bool
-is_glyph_token g t = elim (t.word) [ word.Glyph c ↦ c == code g | _ ↦ false ]
+is_glyph_token g t = has_glyph (code g) t
+
+-- whether a token is this name
+abbrev pub is_name_token : String → Token → Bool
+is_name_token s t = elim (t.word) [ word.Name n ↦ is_same_name n (codes s) | _ ↦ false ]
+
+-- the name that a token is
+abbrev pub name_of_token : Token → Option (List ℕ)
+name_of_token t = elim (t.word) [ word.Name n ↦ Some n | _ ↦ None ]
 
 -- tokens that open a definition, where none is open: ∇ and more; and tokens that close one: ∇ alone
 abbrev pub opens : List Token → Bool
@@ -87,7 +100,7 @@ headings (definition_item d ∷ is) = heading_of d.header ∷ headings is
 -- a line is a line of a body, with this label and statement
 pub record IsBodyLine (hs : List Heading) (l : Line) (b : BodyLine) : Type 0 where
   pub number : b.line ≡ l.number
-  pub label : IsOptionalName b.label
+  pub label : IsLabel hs b.label
   pub statement : IsStatement hs b.statement
   pub spells : Spell l.number (body_spelling b.label b.statement) l.tokens
 

@@ -166,10 +166,13 @@ abbrev pub argument_marks : Option (List ℕ) → List Mark
 argument_marks None = []
 argument_marks (Some x) = some (word.Name x) ∷ []
 
--- the first line of a definition, with its ∇
+-- a header up to its function's own name: ∇, the result with its ← and the left argument
+abbrev pub before_own_name : Header → List Mark
+before_own_name h = some (glyph "∇") ∷ (result_marks h.result ++ argument_marks h.left)
+
+-- the first line of a definition
 abbrev pub header_spelling : Header → List Mark
-header_spelling h = some (glyph "∇") ∷
-    (result_marks h.result ++ (argument_marks h.left ++ (some (word.Name h.f) ∷ (argument_marks h.right ++ local_marks h.locals))))
+header_spelling h = before_own_name h ++ (some (word.Name h.f) ∷ (argument_marks h.right ++ local_marks h.locals))
 
 -- a mark fits a token of the line of this number
 abbrev pub Fits : ℕ → Mark → Token → Type 0

@@ -9,6 +9,7 @@ use Rattle.apl_base.specs.Elements.{indices, gathered}
 use Rattle.apl_model.specs.Whole.{Answer, rank, is_single, is_text, first, error_if, within_limit}
 use Rattle.apl_model.specs.Made.{kinds_differ}
 
+-- a position that is characters
 abbrev pub is_text_position : Option Array → Bool
 is_text_position None = false
 is_text_position (Some p) = is_text p
@@ -17,6 +18,7 @@ is_text_position (Some p) = is_text p
 abbrev pub is_place : ℤ → ℕ → ℤ → Bool
 is_place o n v = int_le o v && int_lt v (o +ℤ pos n)
 
+-- each value of the position names a place of its axis
 abbrev pub in_axis : ℤ → ℕ → Option Array → Bool
 in_axis o n None = true
 in_axis o n (Some p) = list_all (is_place o n) p.cells
@@ -50,6 +52,7 @@ positions_index o ns ps is = []
 
 -- ---- A[I;J]
 
+-- the array that is read at each combination of places
 abbrev pub subscript : ℤ → Array → List (Option Array) → Answer
 subscript o a ps =
     let ns = positions_shape a.shape ps in
@@ -64,6 +67,7 @@ subscript o a ps =
 abbrev pub value_at : Array → List ℕ → ℤ
 value_at b is = if is_single b then first b else cell_at b is
 
+-- the cells after the places of these indices were replaced, one after the other
 abbrev pub replaced : ℤ → Array → List (Option Array) → Array → List (List ℕ) → List ℤ → List ℤ
 replaced o a ps b [] cells = cells
 replaced o a ps b (is ∷ more) cells =

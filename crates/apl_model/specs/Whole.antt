@@ -13,6 +13,7 @@ Answer = Result Array ErrorKind
 
 -- ---- what is asked of an array
 
+-- how many axes there are
 abbrev pub rank : Array → ℕ
 rank a = length a.shape
 
@@ -24,9 +25,11 @@ count a = size_of a.shape
 abbrev pub is_single : Array → Bool
 is_single a = count a == 1
 
+-- without elements
 abbrev pub is_empty : Array → Bool
 is_empty a = count a == 0
 
+-- the kind is characters
 abbrev pub is_char : Kind → Bool
 is_char Char = true
 is_char Num = false
@@ -45,9 +48,11 @@ is_extendable a = is_single a && nat_le (rank a) 1
 
 -- ---- how an array is made
 
+-- an array of one axis
 abbrev pub vector : Kind → List ℤ → Array
 vector k cells = record { kind = k; shape = length cells ∷ []; cells = cells }
 
+-- an array without axes
 abbrev pub scalar : Kind → ℤ → Array
 scalar k cell = record { kind = k; shape = []; cells = cell ∷ [] }
 

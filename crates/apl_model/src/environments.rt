@@ -1,5 +1,5 @@
 //! Variables seen through a function of what names are bound to. Each function does nothing: its contract is a law.
-ghost use Rattle.apl_model.specs.Mapped.{LookUpIsMapped, SetNameIsMapped, ErasedIsMapped, SetNamesAreMapped, WithFrameIsMapped, WithoutFrameIsMapped, WithoutFramesIsMapped, WithOriginIsMapped, NoVariablesAreMapped};
+ghost use Rattle.apl_model.specs.Mapped.{LookUpIsMapped, SetNameIsMapped, ErasedIsMapped, SetNamesAreMapped, WithFrameIsMapped, WithoutFrameIsMapped, WithoutFramesIsMapped, WithOriginIsMapped, NoVariablesAreMapped, FrameIsMapped, ResultIsMapped};
 
 /// What is done with variables is the same before a function of what names are bound to as after it: looking up and
 /// setting a name, making globals unset, the names that are set, and the origin.
@@ -12,9 +12,12 @@ pub fn variables_are_mapped<A, B>()
     ensures no_variables { NoVariablesAreMapped A B }
 {}
 
-/// The same of frames: one put before the others, the innermost taken away, all taken away.
+/// The same of frames: the one of a call, with its arguments and labels; one put before the others, the innermost taken
+/// away, all taken away; and of the value of the result's name.
 pub fn frames_are_mapped<A, B>()
     ensures with_frame { WithFrameIsMapped A B }
     ensures without_frame { WithoutFrameIsMapped A B }
     ensures without_frames { WithoutFramesIsMapped A B }
+    ensures frame { FrameIsMapped A B }
+    ensures result { ResultIsMapped A B }
 {}

@@ -1,9 +1,24 @@
 //! What holds of the definitions. Each function does nothing: its contract is a law.
-ghost use Rattle.apl_model.specs.Laws.{OneListOfTokens, OneExpression, OneStatement, OneBodyLine, OneCommand, OneHeader, OneScript, OneFirstRefusal, OneFirstReadingRefusal, OneFirstLineRefusal, AcceptedExactly, AcceptedItems};
+ghost use Rattle.apl_model.specs.Laws.{OneListOfTokens, TokensInOrder, TokensAreSlices, OneStop, OneExpression, OneStatement, OneBodyLine, OneCommand, OneHeader, OneScript, OneFirstRefusal, OneFirstReadingRefusal, OneFirstLineRefusal, AcceptedExactly, AcceptedItems};
 
 /// A line has at most one list of tokens.
 pub fn one_list_of_tokens()
     ensures { OneListOfTokens }
+{}
+
+/// The tokens of a line stand in order, and none covers a column of another.
+pub fn tokens_in_order()
+    ensures { TokensInOrder }
+{}
+
+/// Each token's text is its slice of the line.
+pub fn tokens_are_slices()
+    ensures { TokensAreSlices }
+{}
+
+/// At most one column stops a line.
+pub fn one_stop()
+    ensures { OneStop }
 {}
 
 /// Two expressions of the language that spell the same tokens are equal.

@@ -5,6 +5,7 @@
 mod agreements;
 mod environments;
 mod examples;
+mod faults;
 mod functions;
 mod laws;
 mod outlines;
@@ -21,11 +22,12 @@ pub use examples::{
     refusals_of_bytes_and_characters, refusals_of_definitions, refusals_of_lines,
     tokens_of_ten_lines, trees_of_fifteen_lines,
 };
+pub use faults::ReadFault;
 pub use functions::{Axis, DyaFn, MonFn};
 pub use laws::{
     accepted_exactly, accepted_items, one_body_line, one_command, one_expression,
     one_first_line_refusal, one_first_reading_refusal, one_first_refusal, one_header,
-    one_list_of_tokens, one_script, one_statement,
+    one_list_of_tokens, one_script, one_statement, one_stop, tokens_are_slices, tokens_in_order,
 };
 pub use outlines::{Outline, OutlineBody, OutlineItem, OutlineLine};
 pub use scripts::{BodyLine, Command, Definition, Header, Script, ScriptItem};

@@ -10,6 +10,32 @@ pub struct Token {
     pub word: Word,
 }
 
+impl Token {
+    ghost use Rattle.std.specs.Prelude.{◌≡◌};
+    ghost use Rattle.std.specs.Option.{option_map};
+    ghost use Rattle.apl_model.specs.Script.{has_glyph, name_of_token};
+
+    /// Whether the token is this glyph.
+    pub fn is_glyph(&self, glyph: char) -> bool
+        ensures { result ≡ has_glyph glyph self.now }
+    {
+        match &self.word {
+            Word::Glyph { glyph: this } => *this == glyph,
+            _ => false,
+        }
+    }
+
+    /// The name that the token is, where it is one.
+    pub fn name(&self) -> Option<&Name>
+        ensures { option_map (λ name. name.now) result ≡ name_of_token self.now }
+    {
+        match &self.word {
+            Word::Name { name } => Some(name),
+            _ => None,
+        }
+    }
+}
+
 /// What a token is.
 #[derive(Drop)]
 pub enum Word {

@@ -6,6 +6,7 @@ use Rattle.apl_model.specs.declared.functions.DyaFn.TheVariants as two
 use Rattle.apl_model.specs.declared.functions.MonFn.TheVariants as one
 use Rattle.apl_model.specs.declared.scripts.Command.TheVariants.{Fns}
 use Rattle.apl_model.specs.Tree.{Script, parenthesis, monadic, dyadic, reduction, elided, given, branch, expression, statement_item, command_item}
+use Rattle.apl_model_examples.specs.Sums.{two_numbers_are_added}
 use Rattle.apl_model_examples.specs.Words.{script, at, number, numbers, text, name, calls, sets, writes, positions, label, unlabelled, body_line, header, definition}
 
 -- a call writes a global name; the value to its right keeps what the name had
@@ -77,9 +78,7 @@ a_loop_without_end = script ("∇F" ∷ "L:→L" ∷ "∇" ∷ "F" ∷ [])
 
 -- with no turn at all no statement is begun
 abbrev pub no_turn_at_all : Script
-no_turn_at_all = script ("2+3" ∷ [])
-    (statement_item 1 (expression (dyadic (two.Scalar dya.Add) (number 2 (at 1 1)) (number 3 (at 1 3)) (at 1 2)))
-    ∷ [])
+no_turn_at_all = two_numbers_are_added
 
 -- commands and definitions take no turn, nor do lines without tokens
 abbrev pub commands_and_definitions_take_no_turn : Script

@@ -67,20 +67,6 @@ more_than_the_greatest_length = script ("⍳1099511627777" ∷ [])
     (statement_item 1 (expression (monadic one.Iota (number 1099511627777 (at 1 2)) (at 1 1)))
     ∷ [])
 
--- a base of 0 takes all that is left, and leaves nothing to the bases before it; the digits of each number stand along the
--- first axis; digits are not negative
-abbrev pub a_base_of_0_takes_all_that_is_left : Script
-a_base_of_0_takes_all_that_is_left = script ("10 0 5⊤17" ∷ "24 60 60⊤3723 7" ∷ "10 10⊤¯1" ∷ "¯3 ¯3⊤7" ∷ [])
-    (statement_item 1 (expression
-    (dyadic two.Encode (numbers (10 ∷ 0 ∷ 5 ∷ []) (at 1 1)) (number 17 (at 1 8)) (at 1 7)))
-    ∷ statement_item 2 (expression
-    (dyadic two.Encode (numbers (24 ∷ 60 ∷ 60 ∷ []) (at 2 1)) (numbers (3723 ∷ 7 ∷ []) (at 2 10)) (at 2 9)))
-    ∷ statement_item 3 (expression
-    (dyadic two.Encode (numbers (10 ∷ 10 ∷ []) (at 3 1)) (integers ((negative 1) ∷ []) (at 3 7)) (at 3 6)))
-    ∷ statement_item 4 (expression
-    (dyadic two.Encode (integers ((negative 3) ∷ (negative 3) ∷ []) (at 4 1)) (number 7 (at 4 7)) (at 4 6)))
-    ∷ [])
-
 -- places of equal elements keep their order, in rising and in falling order
 abbrev pub equal_elements_keep_their_order : Script
 equal_elements_keep_their_order = script ("⍋2 1 2 1" ∷ "⍒2 1 2 1" ∷ [])
@@ -160,4 +146,20 @@ the_number_of_digits_in_one_base = script ("2⊥1 0 1" ∷ "1 2 3⊥2" ∷ "10�
     ∷ statement_item 2 (expression (dyadic two.Decode (numbers (1 ∷ 2 ∷ 3 ∷ []) (at 2 1)) (number 2 (at 2 7)) (at 2 6)))
     ∷ statement_item 3 (expression
     (dyadic two.Decode (number 10 (at 3 1)) (monadic one.Iota (number 0 (at 3 5)) (at 3 4)) (at 3 3)))
+    ∷ [])
+
+-- a base of 0 takes all that is left, and leaves nothing to the bases before it; the digits of each number stand along the
+-- first axis; digits are not negative
+abbrev pub a_base_of_0_takes_all_that_is_left : Script
+a_base_of_0_takes_all_that_is_left = script ("10 0 5⊤17"
+    ∷ "24 60 60⊤3723 7" ∷ "10⊤15 27" ∷ "10 10⊤¯1" ∷ "¯3 ¯3⊤7" ∷ [])
+    (statement_item 1 (expression
+    (dyadic two.Encode (numbers (10 ∷ 0 ∷ 5 ∷ []) (at 1 1)) (number 17 (at 1 8)) (at 1 7)))
+    ∷ statement_item 2 (expression
+    (dyadic two.Encode (numbers (24 ∷ 60 ∷ 60 ∷ []) (at 2 1)) (numbers (3723 ∷ 7 ∷ []) (at 2 10)) (at 2 9)))
+    ∷ statement_item 3 (expression (dyadic two.Encode (number 10 (at 3 1)) (numbers (15 ∷ 27 ∷ []) (at 3 4)) (at 3 3)))
+    ∷ statement_item 4 (expression
+    (dyadic two.Encode (numbers (10 ∷ 10 ∷ []) (at 4 1)) (integers ((negative 1) ∷ []) (at 4 7)) (at 4 6)))
+    ∷ statement_item 5 (expression
+    (dyadic two.Encode (integers ((negative 3) ∷ (negative 3) ∷ []) (at 5 1)) (number 7 (at 5 7)) (at 5 6)))
     ∷ [])

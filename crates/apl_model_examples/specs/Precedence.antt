@@ -91,7 +91,8 @@ a_domain_error_comes_before_an_index_error = script ("A←1 2 3"
 abbrev pub where_a_limit_error_comes_before_a_domain_error : Script
 where_a_limit_error_comes_before_a_domain_error = script ("(1048577⍴'A')⊤1048577⍴1"
     ∷ "⍲/1048577 1048577 0⍴1" ∷ "(2 2 2 2⍴'A')∘.+2 2 2 2 2⍴1" ∷ "(2 2 2 2 2⍴'A')+.+(6⍴2)⍴1"
-    ∷ "(1 2⍴5)[(5⍴1)⍴2;(4⍴1)⍴1]" ∷ "(1 2⍴5)[(5⍴1)⍴1;(4⍴1)⍴1]" ∷ [])
+    ∷ "(1 2⍴5)[(5⍴1)⍴2;(4⍴1)⍴1]" ∷ "(1 2⍴5)[(5⍴1)⍴1;(4⍴1)⍴1]" ∷ "(1099511627776⍴1),1" ∷ "1099511627777↑5"
+    ∷ "1 1 0\\[1]2 549755813888⍴1" ∷ [])
     (statement_item 1 (expression
     (dyadic two.Encode
     (parenthesis (dyadic two.Reshape (number 1048577 (at 1 2)) (text "A" (at 1 10)) (at 1 9)) (at 1 1))
@@ -136,6 +137,15 @@ where_a_limit_error_comes_before_a_domain_error = script ("(1048577⍴'A')⊤104
     (parenthesis (dyadic two.Reshape (number 4 (at 6 18)) (number 1 (at 6 20)) (at 6 19)) (at 6 17))
     (number 1 (at 6 23)) (at 6 22))
     ∷ [])) (at 6 8)))
+    ∷ statement_item 7 (expression
+    (dyadic two.Catenate
+    (parenthesis (dyadic two.Reshape (number 1099511627776 (at 7 2)) (number 1 (at 7 16)) (at 7 15)) (at 7 1))
+    (number 1 (at 7 19)) (at 7 18)))
+    ∷ statement_item 8 (expression (dyadic two.Take (number 1099511627777 (at 8 1)) (number 5 (at 8 15)) (at 8 14)))
+    ∷ statement_item 9 (expression
+    (dyadic (two.Expand (axis.Numbered (pos 1)))
+    (numbers (1 ∷ 1 ∷ 0 ∷ []) (at 9 1))
+    (dyadic two.Reshape (numbers (2 ∷ 549755813888 ∷ []) (at 9 10)) (number 1 (at 9 25)) (at 9 24)) (at 9 6)))
     ∷ [])
 
 -- an interval has one number, a shape no characters; eight axes are the most, and 2^40 elements

@@ -80,9 +80,10 @@ sales_by_quarter = script ("⍝ sales by quarter" ∷ "S←3 4⍴⍳12" ∷ "+/S
     ∷ statement_item 7 (expression (dyadic (two.Compress (axis.Numbered (pos 1))) (numbers (1 ∷ 0 ∷ 1 ∷ []) (at 7 1)) (name "S" (at 7 10)) (at 7 6)))
     ∷ [])
 
--- reduced along the middle axis; rows go with columns; an inner product over no element is the identity
-abbrev pub an_axis_in_the_middle : Script
-an_axis_in_the_middle = script ("+/[2]2 2 2⍴⍳8" ∷ "(2 2⍴⍳4)-.×1 2" ∷ "1 2∘.-1 2 3" ∷ "(⍳0)×.+5" ∷ [])
+-- reduced along the middle axis; rows go with columns, of more axes too; an inner product over no element is the identity
+abbrev pub axes_of_products : Script
+axes_of_products = script ("+/[2]2 2 2⍴⍳8"
+    ∷ "(2 2⍴⍳4)-.×1 2" ∷ "1 2∘.-1 2 3" ∷ "(2 2⍴⍳4)∘.×1 2" ∷ "⍴(2 3 2⍴1)+.×2 2⍴1" ∷ "(⍳0)×.+5" ∷ [])
     (statement_item 1 (expression
     (reduction dya.Add (axis.Numbered (pos 2))
     (dyadic two.Reshape
@@ -98,7 +99,19 @@ an_axis_in_the_middle = script ("+/[2]2 2 2⍴⍳8" ∷ "(2 2⍴⍳4)-.×1 2" �
     ∷ statement_item 3 (expression
     (outer_product dya.Sub (numbers (1 ∷ 2 ∷ []) (at 3 1)) (numbers (1 ∷ 2 ∷ 3 ∷ []) (at 3 7)) (at 3 4)))
     ∷ statement_item 4 (expression
+    (outer_product dya.Mul
+    (parenthesis
+    (dyadic two.Reshape
+    (numbers (2 ∷ 2 ∷ []) (at 4 2))
+    (monadic one.Iota (number 4 (at 4 7)) (at 4 6)) (at 4 5)) (at 4 1))
+    (numbers (1 ∷ 2 ∷ []) (at 4 12)) (at 4 9)))
+    ∷ statement_item 5 (expression
+    (monadic one.Shape
+    (inner_product dya.Add dya.Mul
+    (parenthesis (dyadic two.Reshape (numbers (2 ∷ 3 ∷ 2 ∷ []) (at 5 3)) (number 1 (at 5 9)) (at 5 8)) (at 5 2))
+    (dyadic two.Reshape (numbers (2 ∷ 2 ∷ []) (at 5 14)) (number 1 (at 5 18)) (at 5 17)) (at 5 12)) (at 5 1)))
+    ∷ statement_item 6 (expression
     (inner_product dya.Mul dya.Add
-    (parenthesis (monadic one.Iota (number 0 (at 4 3)) (at 4 2)) (at 4 1))
-    (number 5 (at 4 8)) (at 4 6)))
+    (parenthesis (monadic one.Iota (number 0 (at 6 3)) (at 6 2)) (at 6 1))
+    (number 5 (at 6 8)) (at 6 6)))
     ∷ [])

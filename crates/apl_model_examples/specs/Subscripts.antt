@@ -77,13 +77,17 @@ a_write_to_an_unset_name = script ("Q[1]←2" ∷ [])
     ∷ [])
 
 -- the positions give the axes of the result; places are written by their positions, and none where a position has no element
-abbrev pub positions_of_two_axes : Script
-positions_of_two_axes = script ("(⍳5)[2 2⍴⍳4]"
-    ∷ "(2 3⍴⍳6)[2 1;3 1]" ∷ "A←2 2⍴⍳4" ∷ "A[;2]←8 9" ∷ "A[2 1;1]←5 6" ∷ "A[⍳0;1]←7" ∷ "A[⍳0;1]←''" ∷ "A" ∷ [])
+abbrev pub positions_of_more_axes : Script
+positions_of_more_axes = script ("(⍳5)[2 2⍴⍳4]"
+    ∷ "(2 3⍴⍳6)[2 1;3 1]" ∷ "(2 2 2⍴⍳8)[1;;2]" ∷ "A←2 2⍴⍳4" ∷ "A[;2]←8 9" ∷ "A[2 1;1]←5 6" ∷ "A[⍳0;1]←7"
+    ∷ "A[⍳0;1]←''" ∷ "A" ∷ [])
     (statement_item 1 (expression
     (subscript
     (parenthesis (monadic one.Iota (number 5 (at 1 3)) (at 1 2)) (at 1 1))
-    (positions (given (dyadic two.Reshape (numbers (2 ∷ 2 ∷ []) (at 1 6)) (monadic one.Iota (number 4 (at 1 11)) (at 1 10)) (at 1 9)) ∷ [])) (at 1 5)))
+    (positions
+    (given
+    (dyadic two.Reshape (numbers (2 ∷ 2 ∷ []) (at 1 6)) (monadic one.Iota (number 4 (at 1 11)) (at 1 10)) (at 1 9))
+    ∷ [])) (at 1 5)))
     ∷ statement_item 2 (expression
     (subscript
     (parenthesis
@@ -92,23 +96,30 @@ positions_of_two_axes = script ("(⍳5)[2 2⍴⍳4]"
     (monadic one.Iota (number 6 (at 2 7)) (at 2 6)) (at 2 5)) (at 2 1))
     (positions (given (numbers (2 ∷ 1 ∷ []) (at 2 10)) ∷ given (numbers (3 ∷ 1 ∷ []) (at 2 14)) ∷ [])) (at 2 9)))
     ∷ statement_item 3 (expression
+    (subscript
+    (parenthesis
+    (dyadic two.Reshape
+    (numbers (2 ∷ 2 ∷ 2 ∷ []) (at 3 2))
+    (monadic one.Iota (number 8 (at 3 9)) (at 3 8)) (at 3 7)) (at 3 1))
+    (positions (given (number 1 (at 3 12)) ∷ elided ∷ given (number 2 (at 3 15)) ∷ [])) (at 3 11)))
+    ∷ statement_item 4 (expression
     (sets "A"
     (dyadic two.Reshape
-    (numbers (2 ∷ 2 ∷ []) (at 3 3))
-    (monadic one.Iota (number 4 (at 3 8)) (at 3 7)) (at 3 6)) (at 3 1)))
-    ∷ statement_item 4 (expression
-    (writes "A" (positions (elided ∷ given (number 2 (at 4 4)) ∷ [])) (numbers (8 ∷ 9 ∷ []) (at 4 7)) (at 4 2)))
+    (numbers (2 ∷ 2 ∷ []) (at 4 3))
+    (monadic one.Iota (number 4 (at 4 8)) (at 4 7)) (at 4 6)) (at 4 1)))
     ∷ statement_item 5 (expression
-    (writes "A"
-    (positions (given (numbers (2 ∷ 1 ∷ []) (at 5 3)) ∷ given (number 1 (at 5 7)) ∷ []))
-    (numbers (5 ∷ 6 ∷ []) (at 5 10)) (at 5 2)))
+    (writes "A" (positions (elided ∷ given (number 2 (at 5 4)) ∷ [])) (numbers (8 ∷ 9 ∷ []) (at 5 7)) (at 5 2)))
     ∷ statement_item 6 (expression
     (writes "A"
-    (positions (given (monadic one.Iota (number 0 (at 6 4)) (at 6 3)) ∷ given (number 1 (at 6 6)) ∷ []))
-    (number 7 (at 6 9)) (at 6 2)))
+    (positions (given (numbers (2 ∷ 1 ∷ []) (at 6 3)) ∷ given (number 1 (at 6 7)) ∷ []))
+    (numbers (5 ∷ 6 ∷ []) (at 6 10)) (at 6 2)))
     ∷ statement_item 7 (expression
     (writes "A"
     (positions (given (monadic one.Iota (number 0 (at 7 4)) (at 7 3)) ∷ given (number 1 (at 7 6)) ∷ []))
-    (text "" (at 7 9)) (at 7 2)))
-    ∷ statement_item 8 (expression (name "A" (at 8 1)))
+    (number 7 (at 7 9)) (at 7 2)))
+    ∷ statement_item 8 (expression
+    (writes "A"
+    (positions (given (monadic one.Iota (number 0 (at 8 4)) (at 8 3)) ∷ given (number 1 (at 8 6)) ∷ []))
+    (text "" (at 8 9)) (at 8 2)))
+    ∷ statement_item 9 (expression (name "A" (at 9 1)))
     ∷ [])

@@ -137,8 +137,15 @@ ended_statement s = record { line = s.0; begun = s.1 }
 abbrev pub RunsThroughWithin : ℕ → Script → List String → Ending → Bindings Array → List (ℕ × ℕ) → Type 0
 RunsThroughWithin turns s lines ending globals ended =
     immediate s turns
-    ≡ record { bytes = encode_utf8_all (printed_lines lines); ending = ending; globals = globals; origin = pos 1; ended = map ended_statement ended }
+    ≡ record {
+      bytes = encode_utf8_all (printed_lines lines);
+      ending = ending;
+      globals = globals;
+      origin = pos 1;
+      ended = map ended_statement ended;
+    }
 
+-- with 1,000 turns
 abbrev pub RunsThrough : Script → List String → Ending → Bindings Array → List (ℕ × ℕ) → Type 0
 RunsThrough s lines ending globals ended = RunsThroughWithin 1000 s lines ending globals ended
 
@@ -146,9 +153,10 @@ RunsThrough s lines ending globals ended = RunsThroughWithin 1000 s lines ending
 abbrev pub one_by_one : ℕ → List (ℕ × ℕ)
 one_by_one n = map (λ k. (k, k)) (upward 1 n)
 
--- the statements of one line that began with the numbers from m up, the last begun first
+-- n statements of one line, which began with the numbers from m up, the last begun first
 abbrev pub innermost_first : ℕ → ℕ → ℕ → List (ℕ × ℕ)
 innermost_first line m n = map (λ k. (line, k)) (reverse (upward m n))
 
+-- the origin that is left
 abbrev pub origin_after : Script → ℤ
 origin_after s = (immediate s 1000).origin

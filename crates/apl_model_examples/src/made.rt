@@ -15,11 +15,11 @@ pub fn examples_of_made()
         ∷ script.nothing_has_no_two_elements
         ∷ script.a_second_spelling_of_membership
         ∷ script.more_than_the_greatest_length
-        ∷ script.a_base_of_0_takes_all_that_is_left
         ∷ script.equal_elements_keep_their_order
         ∷ script.places_and_members
         ∷ script.bits_along_an_axis
         ∷ script.the_number_of_digits_in_one_base
+        ∷ script.a_base_of_0_takes_all_that_is_left
         ∷ []) }
     ensures taking_pads_and_dropping_stops { Runs script.taking_pads_and_dropping_stops
         "0 0 1 2 3\n\n" well [] }
@@ -34,10 +34,6 @@ pub fn examples_of_made()
         "0 1\n" well [] }
     ensures more_than_the_greatest_length { Runs script.more_than_the_greatest_length
         "LIMIT ERROR\n      ⍳1099511627777\n      ^\n" reported [] }
-    ensures a_base_of_0_takes_all_that_is_left { RunsThrough
-        script.a_base_of_0_takes_all_that_is_left
-        ("0 3 2" ∷ "1 0" ∷ "2 0" ∷ "3 7" ∷ "9 9" ∷ "2 1" ∷ [])
-        well [] (one_by_one 4) }
     ensures equal_elements_keep_their_order { RunsThrough script.equal_elements_keep_their_order
         ("2 4 1 3" ∷ "1 3 2 4" ∷ [])
         well [] (one_by_one 2) }
@@ -50,4 +46,8 @@ pub fn examples_of_made()
     ensures the_number_of_digits_in_one_base { RunsThrough script.the_number_of_digits_in_one_base
         ("5" ∷ "20" ∷ "0" ∷ [])
         well [] (one_by_one 3) }
+    ensures a_base_of_0_takes_all_that_is_left { RunsThrough
+        script.a_base_of_0_takes_all_that_is_left
+        ("0 3 2" ∷ "1 0" ∷ "2 0" ∷ "3 7" ∷ "5 7" ∷ "9 9" ∷ "2 1" ∷ [])
+        well [] (one_by_one 5) }
 {}

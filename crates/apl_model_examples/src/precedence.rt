@@ -59,8 +59,11 @@ pub fn examples_of_precedence()
         ∷ "LIMIT ERROR" ∷ "      (2 2 2 2 2⍴'A')+.+(6⍴2)⍴1" ∷ "                      ^"
         ∷ "INDEX ERROR" ∷ "      (1 2⍴5)[(5⍴1)⍴2;(4⍴1)⍴1]" ∷ "             ^"
         ∷ "LIMIT ERROR" ∷ "      (1 2⍴5)[(5⍴1)⍴1;(4⍴1)⍴1]" ∷ "             ^"
+        ∷ "LIMIT ERROR" ∷ "      (1099511627776⍴1),1" ∷ "                       ^"
+        ∷ "LIMIT ERROR" ∷ "      1099511627777↑5" ∷ "                   ^"
+        ∷ "LIMIT ERROR" ∷ "      1 1 0\\[1]2 549755813888⍴1" ∷ "           ^"
         ∷ [])
-        reported [] (one_by_one 6) }
+        reported [] (one_by_one 9) }
     ensures what_an_interval_and_a_shape_refuse { RunsThrough
         script.what_an_interval_and_a_shape_refuse
         ("RANK ERROR" ∷ "      ⍳1 1⍴3" ∷ "      ^"

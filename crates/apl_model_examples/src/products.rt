@@ -17,7 +17,7 @@ pub fn examples_of_products()
         ∷ script.a_product_of_two_tables
         ∷ script.a_table_of_products
         ∷ script.sales_by_quarter
-        ∷ script.an_axis_in_the_middle
+        ∷ script.axes_of_products
         ∷ []) }
     ensures a_reduction_goes_from_the_right { Runs script.a_reduction_goes_from_the_right
         "¯1000000000000000000000000000000000000\n¯2\n" well [] }
@@ -37,7 +37,8 @@ pub fn examples_of_products()
         "10 26 42\n15 18 21 24\n5 6 7 8\n 4  3  2 1\n 8  7  6 5\n12 11 10 9\n1  2  3  4\n9 10 11 12\n"
         well
         (is_set "S" (number_table 3 4 (1 ∷ 2 ∷ 3 ∷ 4 ∷ 5 ∷ 6 ∷ 7 ∷ 8 ∷ 9 ∷ 10 ∷ 11 ∷ 12 ∷ [])) ∷ []) }
-    ensures an_axis_in_the_middle { RunsThrough script.an_axis_in_the_middle
-        (" 4  6" ∷ "12 14" ∷ "¯3 ¯5" ∷ "0 ¯1 ¯2" ∷ "1  0 ¯1" ∷ "1" ∷ [])
-        well [] (one_by_one 4) }
+    ensures axes_of_products { RunsThrough script.axes_of_products
+        (" 4  6" ∷ "12 14" ∷ "¯3 ¯5" ∷ "0 ¯1 ¯2" ∷ "1  0 ¯1" ∷ "1 2" ∷ "2 4" ∷ "" ∷ "3 6" ∷ "4 8"
+        ∷ "2 3 2" ∷ "1" ∷ [])
+        well [] (one_by_one 6) }
 {}

@@ -16,7 +16,7 @@ pub fn examples_of_subscripts()
         ∷ script.the_last_write_to_a_place_stays
         ∷ script.one_element_is_a_value_of_its_own
         ∷ script.a_write_to_an_unset_name
-        ∷ script.positions_of_two_axes
+        ∷ script.positions_of_more_axes
         ∷ []) }
     ensures a_row_a_column_and_a_corner { Runs script.a_row_a_column_and_a_corner
         "4 5 6\n2 1\n5 4\n3\n6\n"
@@ -35,7 +35,7 @@ pub fn examples_of_subscripts()
         well (is_set "A" (number_vector (5 ∷ 9 ∷ 7 ∷ [])) ∷ is_set "B" (number_scalar 6) ∷ []) }
     ensures a_write_to_an_unset_name { Runs script.a_write_to_an_unset_name
         "VALUE ERROR\n      Q[1]←2\n       ^\n" reported [] }
-    ensures positions_of_two_axes { RunsThrough script.positions_of_two_axes
-        ("1 2" ∷ "3 4" ∷ "6 4" ∷ "3 1" ∷ "6 8" ∷ "5 9" ∷ [])
-        well (is_set "A" (number_table 2 2 (6 ∷ 8 ∷ 5 ∷ 9 ∷ [])) ∷ []) (one_by_one 8) }
+    ensures positions_of_more_axes { RunsThrough script.positions_of_more_axes
+        ("1 2" ∷ "3 4" ∷ "6 4" ∷ "3 1" ∷ "2 4" ∷ "6 8" ∷ "5 9" ∷ [])
+        well (is_set "A" (number_table 2 2 (6 ∷ 8 ∷ 5 ∷ 9 ∷ [])) ∷ []) (one_by_one 9) }
 {}

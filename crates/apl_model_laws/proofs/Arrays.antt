@@ -1,6 +1,5 @@
 -- Lawful arrays: how they are made.
-use Rattle.std.proofs.Common.{◌≡◌, ℕ, zero, suc, ◌+◌, ◌^◌, ◌<◌, ◌≤◌, Bool, true, false, not, ◌&&◌, leb, ℤ, pos, ◌+ℤ◌, List, [], ◌∷◌, ◌++◌, length, map, set, replicate, Option, Some, None, Ok, IfSome, refl, sym, ap, subst, ◌∙◌, inl, inr, arith}
-use Rattle.std.specs.Prelude.{slice_index_or}
+use Rattle.std.proofs.Common.{◌≡◌, ℕ, ◌^◌, ◌≤◌, Bool, true, false, not, ◌&&◌, leb, ℤ, pos, ◌+ℤ◌, List, [], ◌∷◌, length, Option, Some, None, Ok, refl, ◌∙◌, inl, inr, arith}
 use Rattle.std.specs.List.{AllByRecursion, list_all}
 use Rattle.std.proofs.lemmas.List.{length-map}
 use Rattle.std.proofs.lemmas.Bool.{leb-true, le-leb}
@@ -16,7 +15,7 @@ use Rattle.apl_base.specs.Number.{IsNumber, IsCell}
 use Rattle.apl_base.proofs.Elements.{tabulated-count, tabulated-each}
 use Rattle.apl_base.proofs.Lists.{all_imp, all_map, all_at}
 use Rattle.apl_base.proofs.Numbers.{IsNumber-small}
-use Rattle.apl_base.proofs.Tests.{both_parts, not-false, list_all-each, each-list_all}
+use Rattle.apl_base.proofs.Booleans.{both_parts, not-false, list_all-each, each-list_all}
 use Rattle.scalar_table.specs.Row.{IsElement, IsNumberElement}
 use Rattle.apl_model.specs.Whole.{Answer, is_shape, error_if, error_or, within_limit, or_domain, first, vector, scalar, fill}
 use Rattle.apl_model_laws.specs.Lawful.{IsAnswer, IsOrigin, ShapesAreTested}

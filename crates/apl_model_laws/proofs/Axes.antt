@@ -1,5 +1,5 @@
 -- What transposes, compressions, expansions and encodings give is lawful.
-use Rattle.std.proofs.Common.{◌≡◌, ℕ, zero, suc, ◌+◌, ◌*◌, ◌/◌, ◌^◌, ◌<◌, ◌≤◌, Bool, true, false, not, ◌&&◌, ◌||◌, ◌==◌, if◌then◌else◌, leb, ℤ, pos, negsuc, ◌-ℤ◌, int_le, unsigned_abs, List, [], ◌∷◌, ◌++◌, length, map, get_or, set, replicate, reverse, Option, Some, None, IfSome, refl, sym, ap, subst, ◌∙◌, inl, inr, arith, length-append}
+use Rattle.std.proofs.Common.{◌≡◌, ℕ, zero, suc, ◌*◌, ◌/◌, ◌^◌, ◌≤◌, Bool, true, false, not, ◌&&◌, ◌||◌, ◌==◌, if◌then◌else◌, leb, ℤ, pos, negsuc, ◌-ℤ◌, unsigned_abs, List, [], ◌∷◌, ◌++◌, length, map, get_or, set, replicate, reverse, Option, Some, None, IfSome, refl, sym, ap, subst, ◌∙◌, inl, inr, arith, length-append}
 use Rattle.std.specs.Prelude.{slice_index_or, slice_index, slice_set}
 use Rattle.std.specs.List.{AllByRecursion, flat_map}
 use Rattle.std.specs.Option.{option_map}
@@ -8,7 +8,6 @@ use Rattle.std.specs.Int.{int_div_euclid}
 use Rattle.std.proofs.Math.Nat.{mul-le-mul_left, mul-le-mul_right, div-le_self}
 use Rattle.std.proofs.lemmas.List.{length-map, length-replicate, length-reverse, length-set, reverse-append}
 use Rattle.std.proofs.lemmas.Bool.{leb-true, eqb-true}
-use Rattle.std.proofs.lemmas.Bool.Decides.{nat_tests}
 use Rattle.std.proofs.lemmas.Int.{ints}
 use Rattle.apl_base.specs.declared.cells.Kind.TheVariants.{Num}
 use Rattle.apl_base.specs.declared.faults.ErrorKind.TheVariants as error
@@ -21,7 +20,7 @@ use Rattle.apl_base.proofs.Elements.{all_defined-each}
 use Rattle.apl_base.proofs.Lists.{all_imp, all_map, all_append, all_replicate, all_at}
 use Rattle.apl_base.proofs.Sizes.{size_of-append}
 use Rattle.apl_base.proofs.Numbers.{IsNumber-small}
-use Rattle.apl_base.proofs.Tests.{both_parts, neither_part, not-false}
+use Rattle.apl_base.proofs.Booleans.{both_parts, neither_part, not-false}
 use Rattle.apl_base.proofs.Transposes.{transposed_shape}
 use Rattle.apl_base.proofs.Upward.{length-upward}
 use Rattle.scalar_table.specs.LawfulNumbers.{of_numbers-lawful}

@@ -1,178 +1,127 @@
 -- What a part of a run does and prints doesn't depend on what was printed before it.
-use Rattle.std.proofs.Common.{◌≡◌, ℕ, zero, suc, ℤ, Bool, true, false, List, [], ◌∷◌, ◌++◌, map, Option, Some, None, Ok, Err, refl, ap, ◌∙◌, append_assoc, pos}
+use Rattle.std.proofs.Common.{◌≡◌, ℕ, Bool, true, false, List, [], ◌∷◌, ◌++◌, map, Option, Some, None, Ok, Err, refl, sym, subst, ap, ◌∙◌, append_assoc}
 use Rattle.std.specs.Prelude.{encode_utf8_all}
 use Rattle.std.specs.List.{filter_map}
+use Rattle.std.specs.Option.{option_map}
 use Rattle.std.proofs.lemmas.Str.{encodes-append}
 use Rattle.apl_base.specs.declared.faults.ErrorKind.{ErrorKind}
 use Rattle.apl_base.specs.declared.faults.Place.{Place}
 use Rattle.apl_base.specs.Array.{Array}
-use Rattle.apl_model.specs.Call.{Routine, RoutineLine, entered, turn, on_turn, line_at, next_line, run_line, run_lines, run_found, routine_of, call_within, calls_of, labels_of}
-use Rattle.apl_model.specs.Frames.{with_turn, with_call}
+use Rattle.apl_model.specs.declared.scripts.Command.{Command}
+use Rattle.apl_model.specs.declared.scripts.Command.TheVariants.{Vars, Fns, Erase, Origin}
+use Rattle.apl_model.specs.Agreement.{CallsAgree, ValuesAgree, StatesAgree, MeaningsAgree}
+use Rattle.apl_model.specs.Call.{Routine, on_turn, call_within, calls_of}
+use Rattle.apl_model.specs.Frames.{with_call, result_in}
 use Rattle.apl_model.specs.Environment.{look_up}
-use Rattle.apl_model.specs.Evaluation.{State, at_place, needed, origin_of, with_printed, replace_in, Calls, value_of, argument, positions_of, branch_by, branch_to, print_result, of_arrays, statement_flow}
-use Rattle.apl_model.specs.Order.{silently, show_value, expression_in}
-use Rattle.apl_model.specs.Outcome.{Outcome, done, fails, spent, and_then, Flow}
+use Rattle.apl_model.specs.Evaluation.{State, at_place, needed, origin_of, with_name, with_printed, replace_in, replace_name, Calls, positions_of, branch_by, branch_to, print_result, of_arrays, statement_flow}
+use Rattle.apl_model.specs.Outcome.{Outcome, done, fails, spent, and_then, Flow, onwards}
 use Rattle.apl_model.specs.Immediate.{of_states, Step, statement_step, command_step, obeyed, unwound, Ending, reported, well, Run, after_statement, run_steps, run_items, step_of, definitions_of, routine, report, beginning}
-use Rattle.apl_model.specs.Tree.{Tree, Slot, Positions, Statement, Item, Definition, statement_item, command_item, definition_item, constant, variable, call, parenthesis, monadic, dyadic, reduction, outer_product, inner_product, subscript, assignment, indexed_assignment, output, elided, given, no_position, position, nothing, branch, expression}
+use Rattle.apl_model.specs.Printed.{array_text}
+use Rattle.apl_model.specs.Tree.{Statement, Item, Definition, statement_item, command_item, definition_item}
 use Rattle.apl_model.specs.Whole.{Answer, is_empty, is_text}
-use Rattle.apl_model_laws.specs.Printing.{onto, outcome_onto, PrintsBehind, CallsPrintBehind, ExpressionsPrintBehind, PositionsPrintBehind, StatementsPrintBehind, FunctionsPrintBehind, RunsBeginWithTheirPrefixes, BytesBeginWithTheirPrefixes}
+use Rattle.apl_model.proofs.Agreement.{option-same, options-same, value-same, calls-kept, call-kept, routines-same, expressions_agree, positions_agree, statements_agree, functions_agree}
+use Rattle.apl_model_laws.specs.Printing.{onto, outcome_onto, CallsPrintBehind, ExpressionsPrintBehind, PositionsPrintBehind, StatementsPrintBehind, FunctionsPrintBehind, RunsBeginWithTheirPrefixes, BytesBeginWithTheirPrefixes}
 use Rattle.apl_model_laws.proofs.Kept.{Leads, leads_statement, leads_call, run_kept}
 use Rattle.apl_model_laws.proofs.Counted.{Grows, printed_kept}
 
--- an outcome that is another one behind a text
-pub record Behind (text : List ℕ) {A : Type 0} (o' o : Outcome State A) : Type 0 where
-  pub is : o' ≡ outcome_onto text o
+-- each of these does the same after more text
+needed_onto : (text : List ℕ) (place : Place) (a : Option Array) (s : State) → needed place a (onto text s) ≡ outcome_onto text (needed place a s)
+needed_onto text place (Some a) s = refl
+needed_onto text place None s = refl
 
-then_onto : {A B : Type 0} (text : List ℕ) (o : Outcome State A) (next : A → State → Outcome State B) →
-    ((a : A) (t : State) → Behind text (next a (onto text t)) (next a t)) → and_then (outcome_onto text o) next ≡ outcome_onto text (and_then o next)
-then_onto text (done a t) next h = (h a t).is
-then_onto text (fails kind place t) next h = refl
-then_onto text (spent t) next h = refl
+at_onto : (text : List ℕ) (place : Place) (a : Answer) (s : State) → at_place place a (onto text s) ≡ outcome_onto text (at_place place a s)
+at_onto text place (Ok a) s = refl
+at_onto text place (Err e) s = refl
 
-pub behind_then : {text : List ℕ} {A B : Type 0} {o' o : Outcome State A} {next : A → State → Outcome State B} →
-    Behind text o' o → ((a : A) (t : State) → Behind text (next a (onto text t)) (next a t)) → Behind text (and_then o' next) (and_then o next)
-behind_then {text} {o = o} {next = next} h n = record { is = ap (λ x. and_then x next) h.is ∙ then_onto text o next n }
+replaced_onto : (text name : List ℕ) (place : Place) (a : Answer) (b : Array) (s : State) →
+    and_then (at_place place a (onto text s)) (λ x t. done b (with_name name x t)) ≡ outcome_onto text (and_then (at_place place a s) (λ x t. done b (with_name name x t)))
+replaced_onto text name place (Ok a) b s = refl
+replaced_onto text name place (Err e) b s = refl
 
-needed_behind : (text : List ℕ) (place : Place) (a : Option Array) (s : State) → Behind text (needed place a (onto text s)) (needed place a s)
-needed_behind text place (Some a) s = record { is = refl }
-needed_behind text place None s = record { is = refl }
-
-at_behind : (text : List ℕ) (place : Place) (a : Answer) (s : State) → Behind text (at_place place a (onto text s)) (at_place place a s)
-at_behind text place (Ok a) s = record { is = refl }
-at_behind text place (Err e) s = record { is = refl }
-
-pub printed_onto : (text more : List ℕ) (s : State) → with_printed more (onto text s) ≡ onto text (with_printed more s)
+printed_onto : (text more : List ℕ) (s : State) → with_printed more (onto text s) ≡ onto text (with_printed more s)
 printed_onto text more s = ap (λ (x : List ℕ). record s { printed = x }) (append_assoc text s.printed more)
 
-print_behind : {A : Type 0} (text : List ℕ) (a : A) (more : List ℕ) (s : State) → Behind text (done a (with_printed more (onto text s))) (done a (with_printed more s))
-print_behind text a more s = record { is = ap (λ t. done a t) (printed_onto text more s) }
+shown_onto : (text : List ℕ) (a : Option Array) (s : State) → print_result a (onto text s) ≡ outcome_onto text (print_result a s)
+shown_onto text (Some a) s = ap (λ t. done onwards t) (printed_onto text (array_text a) s)
+shown_onto text None s = refl
 
-module _ (calls : Calls) (kept : CallsPrintBehind calls) (text : List ℕ) where
-  call_behind : (f : List ℕ) (place : Place) (left right : Option Array) (s : State) → Behind text (calls f place left right (onto text s)) (calls f place left right s)
-  call_behind f place left right s = record { is = kept f place left right text s }
+branch_onto : (text : List ℕ) (place : Place) (a : Array) (s : State) → branch_to place a (onto text s) ≡ outcome_onto text (branch_to place a s)
+branch_onto text place a s = by (is_empty a) (is_text a)
+  where
+    by : (e c : Bool) → branch_by e c a place (onto text s) ≡ outcome_onto text (branch_by e c a place s)
+    by true c = refl
+    by false true = refl
+    by false false = refl
 
-  mutual
-    pub value_behind : (t : Tree) (s : State) → Behind text (value_of calls t (onto text s)) (value_of calls t s)
-    value_behind (constant literal place) s = record { is = refl }
-    value_behind (variable name place) s = needed_behind text place (look_up s.variables name) s
-    value_behind (call f left right place) s =
-        behind_then (argument_behind right s) (λ b t. behind_then (argument_behind left t) (λ a u. behind_then (call_behind f place a b u) (needed_behind text place)))
-    value_behind (parenthesis inner place) s = value_behind inner s
-    value_behind (monadic f right place) s = behind_then (value_behind right s) (λ b t. at_behind text place _ t)
-    value_behind (dyadic f left right place) s =
-        behind_then (value_behind right s) (λ b t. behind_then (value_behind left t) (λ a u. at_behind text place _ u))
-    value_behind (reduction f axis right place) s = behind_then (value_behind right s) (λ b t. at_behind text place _ t)
-    value_behind (outer_product f left right place) s =
-        behind_then (value_behind right s) (λ b t. behind_then (value_behind left t) (λ a u. at_behind text place _ u))
-    value_behind (inner_product f g left right place) s =
-        behind_then (value_behind right s) (λ b t. behind_then (value_behind left t) (λ a u. at_behind text place _ u))
-    value_behind (subscript array ps place) s =
-        behind_then (positions_behind ps s) (λ vs t. behind_then (value_behind array t) (λ a u. at_behind text place _ u))
-    value_behind (assignment name value place) s = behind_then (value_behind value s) (λ a t. record { is = refl })
-    value_behind (indexed_assignment name ps value place) s =
-        behind_then (value_behind value s) (λ b t. behind_then (positions_behind ps t) (λ vs u.
-        behind_then (at_behind text place (replace_in (origin_of u) (look_up u.variables name) vs b) u) (λ a v. record { is = refl })))
-    value_behind (output value place) s = behind_then (value_behind value s) (λ a t. print_behind text a _ t)
+-- what is done with arrays doesn't depend on what was printed before
+arrays_behind : (text : List ℕ) (calls others : Calls) → CallsAgree (onto text) (λ a. a) calls others → ValuesAgree (onto text) (λ a. a) (of_arrays calls) (of_arrays others)
+arrays_behind text calls others c = record {
+  literal = λ l s. refl;
+  name = λ name place s. needed_onto text place (look_up s.variables name) s;
+  apply1 = λ f b place s. at_onto text place _ s;
+  apply2 = λ f a b place s. at_onto text place _ s;
+  reduce = λ f axis b place s. at_onto text place _ s;
+  outer = λ f a b place s. at_onto text place _ s;
+  inner = λ f g a b place s. at_onto text place _ s;
+  index = λ a ps place s. ap (λ qs. (of_arrays others).index a qs place (onto text s)) (options-same ps) ∙ at_onto text place _ s;
+  assign = λ name a s. refl;
+  replace = λ name ps b place s.
+      ap (λ qs. replace_name name qs b place (onto text s)) (options-same ps) ∙ replaced_onto text name place (replace_in (origin_of s) (look_up s.variables name) ps b) b s;
+  calls = c;
+  print = λ a s. ap (λ t. done a t) (printed_onto text (array_text a) s);
+  need = λ place a s. ap (λ x. needed place x (onto text s)) (option-same a) ∙ needed_onto text place a s;
+  branch = λ place a s. branch_onto text place a s;
+  show = λ a s. ap (λ x. print_result x (onto text s)) (option-same a) ∙ shown_onto text a s;
+}
 
-    pub argument_behind : (q : Slot) (s : State) → Behind text (argument calls q (onto text s)) (argument calls q s)
-    argument_behind elided s = record { is = refl }
-    argument_behind (given t) s = behind_then (value_behind t s) (λ a u. record { is = refl })
+obeyed_onto : (text : List ℕ) (functions : List (List ℕ)) (c : Command) (s : State) → obeyed functions c (onto text s) ≡ onto text (obeyed functions c s)
+obeyed_onto text functions Vars s = printed_onto text _ s
+obeyed_onto text functions Fns s = printed_onto text _ s
+obeyed_onto text functions (Erase names) s = refl
+obeyed_onto text functions (Origin o) s = refl
 
-    pub positions_behind : (qs : Positions) (s : State) → Behind text (positions_of calls qs (onto text s)) (positions_of calls qs s)
-    positions_behind no_position s = record { is = refl }
-    positions_behind (position q qs) s =
-        behind_then (positions_behind qs s) (λ vs t. behind_then (argument_behind q t) (λ v u. record { is = refl }))
+-- and neither does what turns, calls and commands do
+states_behind : (text : List ℕ) → StatesAgree (onto text) (λ (a : Array). a) of_states of_states
+states_behind text = record {
+  turns = λ s. refl;
+  begun = λ s. refl;
+  begin = λ left s. refl;
+  end = λ line number s. refl;
+  enter = λ header labels left right s.
+      ap (λ l. with_call header labels l (option_map (λ a. a) right) (onto text s)) (option-same left) ∙ ap (λ r. with_call header labels left r (onto text s)) (option-same right);
+  result = λ name s. sym (option-same (result_in s.variables name));
+  leave = λ s. refl;
+  unwind = λ s. refl;
+  tell = λ more s. printed_onto text more s;
+  obey = λ functions c s. obeyed_onto text functions c s;
+}
 
-  result_behind : (a : Option Array) (s : State) → Behind text (print_result a (onto text s)) (print_result a s)
-  result_behind (Some a) s = print_behind text _ _ s
-  result_behind None s = record { is = refl }
-
-  flow_behind : (t : Tree) (s : State) → Behind text (and_then (value_of calls t (onto text s)) (show_value (of_arrays calls))) (and_then (value_of calls t s) (show_value (of_arrays calls)))
-  flow_behind t s = behind_then (value_behind t s) (λ a u. result_behind (Some a) u)
-
-  silent_behind : (t : Tree) (s : State) → Behind text (and_then (value_of calls t (onto text s)) silently) (and_then (value_of calls t s) silently)
-  silent_behind t s = behind_then (value_behind t s) (λ a u. record { is = refl })
-
-  branch_behind : (place : Place) (a : Array) (s : State) → Behind text (branch_to place a (onto text s)) (branch_to place a s)
-  branch_behind place a s = by (is_empty a) (is_text a)
-    where
-      by : (e c : Bool) → Behind text (branch_by e c a place (onto text s)) (branch_by e c a place s)
-      by true c = record { is = refl }
-      by false true = record { is = refl }
-      by false false = record { is = refl }
-
-  expression_behind : (t : Tree) (s : State) → Behind text (expression_in (of_arrays calls) t (onto text s)) (expression_in (of_arrays calls) t s)
-  expression_behind (call f left right place) s =
-      behind_then (argument_behind right s) (λ b t. behind_then (argument_behind left t) (λ a u. behind_then (call_behind f place a b u) result_behind))
-  expression_behind (assignment name value place) s = silent_behind (assignment name value place) s
-  expression_behind (indexed_assignment name ps value place) s = silent_behind (indexed_assignment name ps value place) s
-  expression_behind (output value place) s = silent_behind (output value place) s
-  expression_behind (constant l p) s = flow_behind (constant l p) s
-  expression_behind (variable n p) s = flow_behind (variable n p) s
-  expression_behind (parenthesis e p) s = flow_behind (parenthesis e p) s
-  expression_behind (monadic f b p) s = flow_behind (monadic f b p) s
-  expression_behind (dyadic f a b p) s = flow_behind (dyadic f a b p) s
-  expression_behind (reduction f x b p) s = flow_behind (reduction f x b p) s
-  expression_behind (outer_product f a b p) s = flow_behind (outer_product f a b p) s
-  expression_behind (inner_product f g a b p) s = flow_behind (inner_product f g a b p) s
-  expression_behind (subscript a ps p) s = flow_behind (subscript a ps p) s
-
-  pub statement_behind : (t : Statement) (s : State) → Behind text (statement_flow calls t (onto text s)) (statement_flow calls t s)
-  statement_behind nothing s = record { is = refl }
-  statement_behind (branch value place) s = behind_then (value_behind value s) (branch_behind place)
-  statement_behind (expression value) s = expression_behind value s
+calls_behind : (text : List ℕ) (calls : Calls) → CallsPrintBehind calls → CallsAgree (onto text) (λ a. a) calls calls
+calls_behind text calls h = calls-kept (onto text) calls calls (λ f place left right s. h f place left right text s)
 
 pub expressions_print_behind : ExpressionsPrintBehind
-expressions_print_behind calls h t text s = (value_behind calls h text t s).is
+expressions_print_behind calls h t text s =
+    expressions_agree State State Array Array (onto text) (λ a. a) (of_arrays calls) (of_arrays calls) (arrays_behind text calls calls (calls_behind text calls h)) t s
 
 pub positions_print_behind : PositionsPrintBehind
-positions_print_behind calls h qs text s = (positions_behind calls h text qs s).is
+positions_print_behind calls h qs text s =
+    positions_agree State State Array Array (onto text) (λ a. a) (of_arrays calls) (of_arrays calls) (arrays_behind text calls calls (calls_behind text calls h)) qs s
+    ∙ value-same (onto text) (map (option_map (λ a. a))) options-same (positions_of calls qs s)
 
 pub statements_print_behind : StatementsPrintBehind
-statements_print_behind calls h t text s = (statement_behind calls h text t s).is
-
--- ---- calls
-
-pub turn_behind : {A : Type 0} (text : List ℕ) (line : ℕ) (act : State → Outcome State A) → ((s : State) → Behind text (act (onto text s)) (act s)) →
-    (n : ℕ) (s : State) → Behind text (turn of_states line n act (onto text s)) (turn of_states line n act s)
-turn_behind text line act h zero s = record { is = refl }
-turn_behind {A} text line act h (suc left) s =
-    record { is = ap (λ (o : Outcome State A). entered of_states line (suc s.begun) o) (h (with_turn left s)).is ∙ ends (act (with_turn left s)) }
-  where
-    ends : (o : Outcome State A) → entered of_states line (suc s.begun) (outcome_onto text o) ≡ outcome_onto text (entered of_states line (suc s.begun) o)
-    ends (done a t) = refl
-    ends (fails kind place t) = refl
-    ends (spent t) = refl
-
-module _ (S : Type 0) (meaning : Calls → S → State → Outcome State Flow)
-    (means : (calls : Calls) → CallsPrintBehind calls → (st : S) → PrintsBehind (meaning calls st)) where
-  module _ (calls : Calls) (kept : CallsPrintBehind calls) (text : List ℕ) where
-    line_behind : (l : Option (RoutineLine S)) (s : State) (next : Flow → State → Outcome State (Unit {0})) →
-        ((flow : Flow) (t : State) → Behind text (next flow (onto text t)) (next flow t)) →
-        Behind text (run_line of_states meaning calls l (onto text s) next) (run_line of_states meaning calls l s next)
-    line_behind None s next h = record { is = refl }
-    line_behind (Some l) s next h =
-        behind_then (turn_behind text l.line (meaning calls l.statement) (λ t. record { is = means calls kept l.statement text t }) s.turns s) h
-
-    lines_behind : (body : List (RoutineLine S)) (n : ℕ) (i : ℤ) (s : State) →
-        Behind text (run_lines of_states meaning calls body n i (onto text s)) (run_lines of_states meaning calls body n i s)
-    lines_behind body zero i s = line_behind (line_at body i) s (λ flow t. spent t) (λ flow t. record { is = refl })
-    lines_behind body (suc n) i s =
-        line_behind (line_at body i) s (λ flow t. run_lines of_states meaning calls body n (next_line i flow) t) (λ flow t. lines_behind body n (next_line i flow) t)
-
-    found_behind : (r : Option (Routine S)) (place : Place) (left right : Option Array) (s : State) →
-        Behind text (run_found of_states meaning calls r place left right (onto text s)) (run_found of_states meaning calls r place left right s)
-    found_behind None place left right s = record { is = refl }
-    found_behind (Some r) place left right s =
-        behind_then (lines_behind r.body s.turns (pos 1) (with_call r.header (labels_of r.body) left right s)) (λ _ t. record { is = refl })
-
-  pub calls_behind : (routines : List (Routine S)) (n : ℕ) → CallsPrintBehind (call_within of_states meaning routines n)
-  calls_behind routines zero f place left right text s = refl
-  calls_behind routines (suc n) f place left right text s =
-      (found_behind (call_within of_states meaning routines n) (calls_behind routines n) text (routine_of routines f) place left right s).is
+statements_print_behind calls h t text s =
+    statements_agree State State Array Array (onto text) (λ a. a) (of_arrays calls) (of_arrays calls) (arrays_behind text calls calls (calls_behind text calls h)) t s
 
 pub functions_print_behind : FunctionsPrintBehind
-functions_print_behind routines n = calls_behind Statement statement_flow statements_print_behind routines n
+functions_print_behind routines n f place left right text s =
+    let m : MeaningsAgree (onto text) (λ (a : Array). a) (λ (p : Statement). p) statement_flow statement_flow = record {
+      agree = λ calls others c p s. statements_agree State State Array Array (onto text) (λ a. a) (of_arrays calls) (of_arrays others) (arrays_behind text calls others c) p s;
+    } in
+    let calls : Calls = call_within of_states statement_flow routines n in
+    let agree : CallsAgree (onto text) (λ (a : Array). a) calls calls =
+    subst (λ (rs : List (Routine Statement)). CallsAgree (onto text) (λ (a : Array). a) calls (call_within of_states statement_flow rs n)) (routines-same routines)
+    (functions_agree State State Array Array Statement Statement (onto text) (λ a. a) (λ p. p) of_states of_states statement_flow statement_flow (states_behind text) m routines n) in
+    call-kept (onto text) calls calls agree f place left right s
 
 -- ---- a run and the run of its first items
 

@@ -1,5 +1,5 @@
 -- What the functions that are no scalar functions give is lawful.
-use Rattle.std.proofs.Common.{◌≡◌, ℕ, zero, suc, ◌+◌, ◌-◌, ◌%◌, ◌^◌, ◌<◌, ◌≤◌, Bool, true, false, not, ◌&&◌, ◌||◌, ◌==◌, if◌then◌else◌, ℤ, pos, negsuc, ◌+ℤ◌, ◌-ℤ◌, ◌*ℤ◌, ◌≤ℤ◌, ◌<ℤ◌, int_le, int_lt, unsigned_abs, List, [], ◌∷◌, ◌++◌, length, map, replicate, remove, Option, Some, None, IfSome, refl, ap, subst, ◌∙◌, ◌⊎◌, inl, inr, arith, length-append}
+use Rattle.std.proofs.Common.{◌≡◌, ℕ, zero, suc, ◌+◌, ◌-◌, ◌%◌, ◌^◌, ◌<◌, ◌≤◌, Bool, true, false, not, ◌&&◌, ◌||◌, ◌==◌, if◌then◌else◌, ℤ, pos, ◌+ℤ◌, ◌-ℤ◌, ◌*ℤ◌, int_le, int_lt, unsigned_abs, List, [], ◌∷◌, ◌++◌, length, map, replicate, remove, Option, Some, None, IfSome, refl, ap, subst, ◌∙◌, ◌⊎◌, inl, inr, arith, length-append}
 use Rattle.std.specs.Prelude.{slice_index_or, nat_eq}
 use Rattle.std.specs.List.{AllByRecursion, list_any, position_or_len}
 use Rattle.std.specs.Cmp.Lexicographic.{pointwise}
@@ -22,7 +22,7 @@ use Rattle.apl_base.specs.Selection.{upward, reverse_index, drop_shape, drop_ind
 use Rattle.apl_base.proofs.Integers.{magnitude-below}
 use Rattle.apl_base.proofs.Lists.{all_imp, all_map, all_mapped, all_append, all_replicate, all_at}
 use Rattle.apl_base.proofs.Numbers.{IsNumber-small}
-use Rattle.apl_base.proofs.Tests.{both_parts, neither_part, not-false}
+use Rattle.apl_base.proofs.Booleans.{both_parts, neither_part, not-false}
 use Rattle.apl_base.proofs.Upward.{length-upward, length-map-upward, all-upward}
 use Rattle.scalar_table.specs.LawfulNumbers.{truth-lawful, of_numbers-lawful}
 use Rattle.apl_model.specs.declared.functions.Axis.{Axis}

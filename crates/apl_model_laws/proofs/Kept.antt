@@ -54,6 +54,7 @@ leads_name k b name a s = record { to = k.variables s (with_name name a s).varia
 pub leads_print : {R : State → State → Type 0} → IsKept R → {A : Type 0} (b : A) (text : List ℕ) (s : State) → Leads R s (done b (with_printed text s))
 leads_print k b text s = record { to = k.printed s text }
 
+-- where a branch goes
 leads_branch : {R : State → State → Type 0} → IsKept R → (place : Place) (a : Array) (s : State) → Leads R s (branch_to place a s)
 leads_branch {R} k place a s = by (is_empty a) (is_text a)
   where
@@ -62,12 +63,14 @@ leads_branch {R} k place a s = by (is_empty a) (is_text a)
     by false true = record { to = k.same s }
     by false false = leads_done k _ s
 
+-- the value of a statement, if it has one, printed
 leads_show : {R : State → State → Type 0} → IsKept R → (a : Option Array) (s : State) → Leads R s (print_result a s)
 leads_show k (Some a) s = leads_print k _ _ s
 leads_show k None s = leads_done k _ s
 
 module _ (R : State → State → Type 0) (k : IsKept R) (calls : Calls)
     (kept : (f : List ℕ) (place : Place) (left right : Option Array) (s : State) → Leads R s (calls f place left right s)) where
+  -- everything that is done with arrays keeps the relation
   each_leads : IsOfEach (of_arrays calls) (λ A s o. Leads R {A = A} s o)
   each_leads = record {
     literal = λ l s. leads_done k _ s;

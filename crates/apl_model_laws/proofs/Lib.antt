@@ -10,3 +10,4 @@ pub mod Scripts
 pub mod Spent
 pub mod TestedAxes
 pub mod Values
+pub mod Variables

@@ -1,14 +1,10 @@
 -- Over lawful variables each part of a run gives lawful values and leaves lawful variables.
-use Rattle.std.proofs.Common.{ℕ, zero, suc, ◌+◌, ◌≤◌, Bool, true, false, if◌then◌else◌, ℤ, pos, negsuc, List, [], ◌∷◌, ◌++◌, length, map, Option, Some, None, Ok, Err, IfSome, refl, inr, arith}
+use Rattle.std.proofs.Common.{ℕ, zero, suc, Bool, true, false, if◌then◌else◌, ℤ, pos, negsuc, List, [], ◌∷◌, map, Option, Some, None, Ok, Err, IfSome, refl, inr}
 use Rattle.std.specs.Prelude.{slice_get}
-use Rattle.std.specs.List.{AllByRecursion, filter_map, find, fold}
-use Rattle.std.proofs.lemmas.Int.{ints}
-use Rattle.std.proofs.lemmas.List.{length-map}
-use Rattle.apl_base.specs.declared.cells.Kind.TheVariants.{Num}
+use Rattle.std.specs.List.{AllByRecursion, filter_map, find}
 use Rattle.apl_base.specs.declared.faults.ErrorKind.{ErrorKind}
 use Rattle.apl_base.specs.declared.faults.Place.{Place}
 use Rattle.apl_base.specs.Array.{Array, IsArray}
-use Rattle.apl_base.specs.Number.{IsNumber}
 use Rattle.apl_model.specs.declared.functions.DyaFn.{DyaFn}
 use Rattle.apl_model.specs.declared.functions.DyaFn.TheVariants as two
 use Rattle.apl_model.specs.declared.functions.MonFn.{MonFn}
@@ -17,8 +13,8 @@ use Rattle.apl_model.specs.declared.scripts.Command.{Command}
 use Rattle.apl_model.specs.declared.scripts.Command.TheVariants.{Vars, Fns, Erase, Origin}
 use Rattle.apl_model.specs.declared.tokens.Heading.{Heading}
 use Rattle.apl_model.specs.Call.{Routine, RoutineLine, entered, turn, on_turn, line_at, next_line, run_line, run_lines, run_found, routine_of, call_within, calls_of, labels_of}
-use Rattle.apl_model.specs.Frames.{with_turn, argument_binding, label_bindings, unset, with_call, frame_of, result_in}
-use Rattle.apl_model.specs.Environment.{Environment, Bindings, is_same_name, declares, bound_in, bound_to, found_in, look_up, set_in_frames, declared_in, set_name, unset_global, innermost_gone}
+use Rattle.apl_model.specs.Frames.{with_turn, with_call}
+use Rattle.apl_model.specs.Environment.{is_same_name, look_up}
 use Rattle.apl_model.specs.Evaluation.{State, at_place, needed, origin_of, monadic_value, dyadic_value, replace_in, Calls, value_of, argument, positions_of, branch_by, branch_to, print_result, of_arrays, statement_flow}
 use Rattle.apl_model.specs.Order.{silently, show_value, expression_in}
 use Rattle.apl_model.specs.Outcome.{Outcome, done, fails, spent, and_then, Flow}
@@ -26,12 +22,12 @@ use Rattle.apl_model.specs.Grammar.{IsExpression, ArePositions, IsPosition, IsSt
 use Rattle.apl_model.specs.Immediate.{of_states, Step, statement_step, command_step, obeyed, unwound, Ending, reported, well, Run, after_statement, run_steps, step_of, definitions_of, routine, report, beginning}
 use Rattle.apl_model.specs.Tree as tree
 use Rattle.apl_model.specs.Tree.{Tree, Slot, Positions, Statement, Script, Item, Definition, statement_item, command_item, definition_item, constant, variable, call, parenthesis, monadic, dyadic, reduction, outer_product, inner_product, assignment, indexed_assignment, output, elided, given, no_position, position, nothing, branch, expression}
-use Rattle.apl_model.specs.Whole.{Answer, is_empty, is_text, scalar}
-use Rattle.apl_model_laws.specs.Lawful.{IsOrigin, IsOptional, AreBindings, IsEnvironment, IsOutcome, CallsAreLawful, ExpressionsAreLawful, PositionsAreLawful, StatementsAreLawful, IsRoutine, FunctionsAreLawful, IsLawfulItem, RunsAreLawful, MonadicValuesAreLawful, DyadicValuesAreLawful, ReductionsAreLawful, OuterProductsAreLawful, InnerProductsAreLawful, SubscriptsAreLawful, ReplacementsAreLawful}
-use Rattle.apl_base.proofs.Lists.{all_append}
-use Rattle.apl_model_laws.proofs.Arrays.{scalar-array, Gives}
+use Rattle.apl_model.specs.Whole.{Answer, is_empty, is_text}
+use Rattle.apl_model_laws.specs.Lawful.{IsOrigin, IsOptional, IsEnvironment, IsOutcome, CallsAreLawful, ExpressionsAreLawful, PositionsAreLawful, StatementsAreLawful, IsRoutine, FunctionsAreLawful, IsLawfulItem, RunsAreLawful, MonadicValuesAreLawful, DyadicValuesAreLawful, ReductionsAreLawful, OuterProductsAreLawful, InnerProductsAreLawful, SubscriptsAreLawful, ReplacementsAreLawful}
+use Rattle.apl_model_laws.proofs.Arrays.{Gives}
 use Rattle.apl_model_laws.proofs.Axes.{flipped-gives, transposed-gives, compress-gives, expand-gives, encode-gives}
 use Rattle.apl_model_laws.proofs.Forms.{interval-gives, shape-gives, reshape-gives, ravel-gives, catenate-gives, reversed-gives, rotated-gives, take-gives, drop-gives, index_of-gives, member-gives, grade-gives, decode-gives}
+use Rattle.apl_model_laws.proofs.Variables.{look_up-lawful, set_name-lawful, frame-lawful, gone-lawful, result-lawful, unset-globals}
 use Rattle.apl_model_laws.proofs.Values.{lift1-gives, lift2-gives, reduce-gives, outer-gives, inner-gives, subscript-gives, replacement-gives, literals_are_lawful}
 
 -- ---- functions
@@ -81,50 +77,6 @@ subscripts_are_lawful o a ps h = (subscript-gives o a ps h).answer
 
 pub replacements_are_lawful : ReplacementsAreLawful
 replacements_are_lawful o a ps b g h = (replacement-gives o a ps b g h).answer
-
--- ---- variables
-
-bound_in-lawful : (bs : Bindings Array) (name : List ℕ) → AreBindings bs → IsOptional (bound_in bs name)
-bound_in-lawful [] name h = tt
-bound_in-lawful (b ∷ bs) name h = by (is_same_name b.0 name) (bound_in bs name) h.0 (bound_in-lawful bs name h.1)
-  where
-    by : (t : Bool) (r : Option Array) → IsOptional b.1 → IsOptional r → IsOptional (if t then b.1 else r)
-    by true r p q = p
-    by false r p q = q
-
-bound_to-lawful : (bs : Bindings Array) (name : List ℕ) (a : Option Array) → AreBindings bs → IsOptional a → AreBindings (bound_to bs name a)
-bound_to-lawful [] name a h p = (p, tt)
-bound_to-lawful (b ∷ bs) name a h p = by (is_same_name b.0 name) (bound_to bs name a) h.1 (bound_to-lawful bs name a h.1 p)
-  where
-    by : (t : Bool) (r : Bindings Array) → AreBindings bs → AreBindings r → AreBindings (if t then (name, a) ∷ bs else b ∷ r)
-    by true r q c = (p, q)
-    by false r q c = (h.0, c)
-
-found_in-lawful : (fs : List (Bindings Array)) (globals : Bindings Array) (name : List ℕ) → AllByRecursion AreBindings fs → AreBindings globals → IsOptional (found_in fs globals name)
-found_in-lawful [] globals name h g = bound_in-lawful globals name g
-found_in-lawful (f ∷ fs) globals name h g = by (declares f name) (bound_in f name) (found_in fs globals name) (bound_in-lawful f name h.0) (found_in-lawful fs globals name h.1 g)
-  where
-    by : (t : Bool) (q r : Option Array) → IsOptional q → IsOptional r → IsOptional (if t then q else r)
-    by true q r a b = a
-    by false q r a b = b
-
-look_up-lawful : (e : Environment Array) (name : List ℕ) → IsEnvironment e → IsOptional (look_up e name)
-look_up-lawful e name h = found_in-lawful e.frames e.globals name h.frames h.globals
-
-set_in_frames-lawful : (fs : List (Bindings Array)) (name : List ℕ) (a : Array) → AllByRecursion AreBindings fs → IsArray a → AllByRecursion AreBindings (set_in_frames fs name a)
-set_in_frames-lawful [] name a h p = tt
-set_in_frames-lawful (f ∷ fs) name a h p = by (declares f name) (set_in_frames fs name a) (set_in_frames-lawful fs name a h.1 p)
-  where
-    by : (t : Bool) (r : List (Bindings Array)) → AllByRecursion AreBindings r → AllByRecursion AreBindings (if t then bound_to f name (Some a) ∷ fs else f ∷ r)
-    by true r q = (bound_to-lawful f name (Some a) h.0 p, h.1)
-    by false r q = (h.0, q)
-
-set_name-lawful : (e : Environment Array) (name : List ℕ) (a : Array) → IsEnvironment e → IsArray a → IsEnvironment (set_name e name a)
-set_name-lawful e name a h p = by (declared_in e.frames name)
-  where
-    by : (t : Bool) → IsEnvironment (if t then record e { frames = set_in_frames e.frames name a } else record e { globals = bound_to e.globals name (Some a) })
-    by true = record { globals = h.globals; frames = set_in_frames-lawful e.frames name a h.frames p; origin = h.origin }
-    by false = record { globals = bound_to-lawful e.globals name (Some a) h.globals p; frames = h.frames; origin = h.origin }
 
 -- ---- outcomes
 
@@ -266,45 +218,6 @@ turn-safe {A} P line act h (suc left) s e = ends (act (with_turn left s)) (h (wi
     ends (fails kind place t) k = record { outcome = k.outcome }
     ends (spent t) k = record { outcome = k.outcome }
 
-argument_binding-lawful : (name : Option (List ℕ)) (a : Option Array) → IsOptional a → AreBindings (argument_binding name a)
-argument_binding-lawful None a h = tt
-argument_binding-lawful (Some name) a h = (h, tt)
-
-unset-lawful : (names : List (List ℕ)) → AreBindings (map unset names)
-unset-lawful [] = tt
-unset-lawful (n ∷ ns) = (tt, unset-lawful ns)
-
-pub below-number : (k n : ℕ) → k ≤ n → IsNumber (pos n) → IsNumber (pos k)
-below-number k n l h = record { least = omega (arith, ints, h.most, l); most = omega (arith, ints, h.most, l) }
-
-labels-lawful : (k n : ℕ) (ls : List (Option (List ℕ))) → k + length ls ≤ suc n → IsNumber (pos n) → AreBindings (label_bindings k ls)
-labels-lawful k n [] l h = tt
-labels-lawful k n (x ∷ ls) l h =
-    all_append (λ (b : List ℕ × Option Array). IsOptional b.1) (argument_binding x (Some (scalar Num (pos k)))) (label_bindings (suc k) ls)
-    (argument_binding-lawful x (Some (scalar Num (pos k))) (scalar-array Num (pos k) (below-number k n (omega (arith, l)) h)))
-    (labels-lawful (suc k) n ls (omega (arith, l)) h)
-
-bindings_append : (xs ys : Bindings Array) → AreBindings xs → AreBindings ys → AreBindings (xs ++ ys)
-bindings_append xs ys a b = all_append (λ (b : List ℕ × Option Array). IsOptional b.1) xs ys a b
-
-frame-lawful : (r : Routine Statement) (left right : Option Array) → IsNumber (pos (length r.body)) → IsOptional left → IsOptional right → AreBindings (frame_of r.header (labels_of r.body) left right)
-frame-lawful r left right h p q =
-    let a = argument_binding r.header.result None in
-    let b = argument_binding r.header.left left in
-    let c = argument_binding r.header.right right in
-    let d = map unset r.header.locals in
-    bindings_append (a ++ b ++ c ++ d) (label_bindings 1 (labels_of r.body)) (bindings_append (a ++ b ++ c) d (bindings_append (a ++ b) c (bindings_append a b
-    (argument_binding-lawful r.header.result None tt) (argument_binding-lawful r.header.left left p)) (argument_binding-lawful r.header.right right q)) (unset-lawful r.header.locals))
-    (labels-lawful 1 (length r.body) (labels_of r.body) (omega (arith, length-map r.body (λ (l : RoutineLine Statement). l.label))) h)
-
-gone-lawful : (fs : List (Bindings Array)) → AllByRecursion AreBindings fs → AllByRecursion AreBindings (innermost_gone fs)
-gone-lawful [] h = tt
-gone-lawful (f ∷ fs) h = h.1
-
-result-lawful : (e : Environment Array) (name : Option (List ℕ)) → IsEnvironment e → IsOptional (result_in e name)
-result-lawful e None h = tt
-result-lawful e (Some name) h = look_up-lawful e name h
-
 abbrev IsLine : List Heading → RoutineLine Statement → Type 0
 IsLine hs l = IsStatement hs l.statement
 
@@ -359,17 +272,6 @@ functions_are_lawful hs routines h (suc n) f place left right p q s e =
     (routine_of routines f) place left right s (found-routine hs (λ r. is_same_name r.header.f f) routines h) p q e).outcome
 
 -- ---- runs
-
-unset-global : (bs : Bindings Array) (name : List ℕ) → AreBindings bs → AreBindings (unset_global bs name)
-unset-global bs name h = by (declares bs name)
-  where
-    by : (t : Bool) → AreBindings (if t then bound_to bs name None else bs)
-    by true = bound_to-lawful bs name None h tt
-    by false = h
-
-unset-globals : (names : List (List ℕ)) (bs : Bindings Array) → AreBindings bs → AreBindings (fold unset_global bs names)
-unset-globals [] bs h = h
-unset-globals (n ∷ ns) bs h = unset-globals ns (unset_global bs n) (unset-global bs n h)
 
 abbrev IsStep : List Heading → Step Statement → Type 0
 IsStep hs (statement_step line s) = IsStatement hs s

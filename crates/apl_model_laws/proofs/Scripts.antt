@@ -11,7 +11,8 @@ use Rattle.apl_model.specs.Immediate.{routine_line}
 use Rattle.apl_model.specs.Script.{is_empty, opens, closes, Part, alone, defined, Inside, parts, inside, headings, IsBodyLine, IsItem}
 use Rattle.apl_model.specs.Tree.{Statement, BodyLine, Item, statement_item, command_item, definition_item}
 use Rattle.apl_model_laws.specs.Lawful.{IsLawfulItem, ScriptsHaveLawfulItems, ImmediateIsLawful}
-use Rattle.apl_model_laws.proofs.Safe.{below-number, runs_are_lawful}
+use Rattle.apl_model_laws.proofs.Safe.{runs_are_lawful}
+use Rattle.apl_model_laws.proofs.Variables.{below-number}
 
 -- a part whose body has at most n lines
 abbrev IsShort : ℕ → Part → Type 0

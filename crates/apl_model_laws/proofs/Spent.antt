@@ -18,6 +18,7 @@ use Rattle.apl_model_laws.proofs.Kept.{Leads, leads_statement}
 use Rattle.apl_model_laws.proofs.Counted.{turns_kept, runs_keep_turns}
 use Rattle.apl_model_laws.proofs.Onwards.{turn-fewer, calls-take}
 
+-- an outcome that is spent, if at all, with no turns left
 record Out {A : Type 0} (o : Outcome State A) : Type 0 where
   pub out : IsSpentOut o
 
@@ -51,6 +52,7 @@ abbrev IsOut : (A : Type 0) → State → Outcome State A → Type 0
 IsOut A s o = Out o
 
 module _ (calls : Calls) (h : CallsSpendAll calls) where
+  -- it holds of everything that is done with arrays
   each_out : IsOfEach (of_arrays calls) IsOut
   each_out = record {
     literal = λ l s. record { out = tt };
@@ -84,6 +86,7 @@ statements_spend_all calls h t s =
 
 -- ---- calls
 
+-- a turn
 turn-out : {A : Type 0} (line : ℕ) (act : State → Outcome State A) → ((s : State) → Out (act s)) → (n : ℕ) (s : State) → s.turns ≡ n → Out (turn of_states line n act s)
 turn-out line act h zero s e = record { out = e }
 turn-out {A} line act h (suc left) s e = ends (act (with_turn left s)) (h (with_turn left s))
@@ -94,6 +97,7 @@ turn-out {A} line act h (suc left) s e = ends (act (with_turn left s)) (h (with_
     ends (spent t) k = record { out = k.out }
 
 module _ (calls : Calls) (h : CallsSpendAll calls) (takes : (f : List ℕ) (place : Place) (left right : Option Array) (s : State) → Leads TakesTurns s (calls f place left right s)) where
+  -- a line, and what follows it where fewer turns are left
   line-out : (l : Option (RoutineLine Statement)) (s : State) (next : Flow → State → Outcome State (Unit {0})) →
       ((flow : Flow) (t : State) → t.turns < s.turns → Out (next flow t)) → Out (run_line of_states statement_flow calls l s next)
   line-out None s next n = record { out = tt }
@@ -110,6 +114,7 @@ module _ (calls : Calls) (h : CallsSpendAll calls) (takes : (f : List ℕ) (plac
       line-out (line_at body i) s (λ flow t. run_lines of_states statement_flow calls body n (next_line i flow) t)
       (λ flow t l. lines-out body n (next_line i flow) t (omega (arith, l, p)))
 
+  -- a call of a function
   found-out : (r : Option (Routine Statement)) (place : Place) (left right : Option Array) (s : State) → Out (run_found of_states statement_flow calls r place left right s)
   found-out None place left right s = record { out = tt }
   found-out (Some r) place left right s =
@@ -123,17 +128,20 @@ functions_spend_all routines (suc n) f place left right s =
 
 -- ---- runs
 
+-- a run that is out of turns has none left
 record OutRun (r : Run State) : Type 0 where
   pub out : r.ending ≡ out_of_turns → r.state.turns ≡ 0
 
 module _ (flow_of : Statement → State → Outcome State Flow) (functions : List (List ℕ)) (report_of : ErrorKind → Place → List ℕ)
     (h : (st : Statement) (s : State) → Out (flow_of st s)) where
+  -- what follows a statement
   after-out : (ending : Ending) (o : Outcome State Flow) (next : Ending → State → Run State) → Out o → ((t : State) → OutRun (next ending t)) → ((t : State) → OutRun (next reported t)) →
       OutRun (after_statement of_states flow_of functions report_of ending o next)
   after-out ending (done a t) next k n m = n t
   after-out ending (fails kind place t) next k n m = m _
   after-out ending (spent t) next k n m = record { out = λ e. k.out }
 
+  -- statements and commands in order
   steps-out : (steps : List (Step Statement)) (ending : Ending) (s : State) → (ending ≡ out_of_turns → ⊥) → OutRun (run_steps of_states flow_of functions report_of steps ending s)
   steps-out [] ending s k = record { out = λ e. absurd (k e) }
   steps-out (statement_step line st ∷ steps) ending s k =

@@ -1,6 +1,6 @@
 -- The test of axes: with each number but 0 there is the number before it, so there are all up to the greatest.
-use Rattle.std.proofs.Common.{◌≡◌, ℕ, zero, suc, ◌+◌, ◌-◌, ◌<◌, ◌≤◌, Bool, true, false, ◌&&◌, ◌||◌, ℤ, pos, negsuc, ◌-ℤ◌, ◌≤ℤ◌, int_le, unsigned_abs, List, [], ◌∷◌, length, map, get_or, refl, sym, ap, subst, ◌∙◌, inl, inr, arith}
-use Rattle.std.specs.List.{AllByRecursion, Contains, list_all, list_any}
+use Rattle.std.proofs.Common.{◌≡◌, ℕ, zero, suc, ◌+◌, ◌-◌, ◌<◌, ◌≤◌, Bool, true, false, ◌||◌, ℤ, pos, negsuc, ◌-ℤ◌, ◌≤ℤ◌, int_le, unsigned_abs, List, [], ◌∷◌, length, map, get_or, refl, sym, ap, subst, ◌∙◌, inl, inr, arith}
+use Rattle.std.specs.List.{AllByRecursion, Contains, list_any}
 use Rattle.std.specs.Ordering.{int_eq}
 use Rattle.std.proofs.Math.Bool.{or-true}
 use Rattle.std.proofs.lemmas.Bool.{cases_lt}
@@ -9,7 +9,7 @@ use Rattle.std.proofs.lemmas.Int.{ints}
 use Rattle.apl_base.specs.Selection.{AreAxes, axes_rank}
 use Rattle.apl_base.proofs.Integers.{magnitude-is}
 use Rattle.apl_base.proofs.Lists.{all_imp}
-use Rattle.apl_base.proofs.Tests.{both_parts, list_all-each, each-list_all}
+use Rattle.apl_base.proofs.Booleans.{both_parts, list_all-each, each-list_all}
 use Rattle.apl_model.specs.Made.{is_axis_among, are_axes}
 use Rattle.apl_model_laws.specs.Lawful.{AxesAreTested}
 

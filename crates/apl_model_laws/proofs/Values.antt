@@ -24,7 +24,7 @@ use Rattle.apl_base.specs.Selection.{upward}
 use Rattle.apl_base.proofs.Elements.{length-indices, all_defined-each}
 use Rattle.apl_base.proofs.Lists.{all_imp, all_map, all_mapped, all_replicate, all_at, all_set, length-pairs, zip-all}
 use Rattle.apl_base.proofs.Numbers.{IsNumber-small}
-use Rattle.apl_base.proofs.Tests.{both_parts, neither_part}
+use Rattle.apl_base.proofs.Booleans.{both_parts, neither_part}
 use Rattle.scalar_table.specs.Row.{IsElement, IsNumberElement}
 use Rattle.scalar_table.specs.LawfulElements.{scalar1-lawful, scalar2-lawful}
 use Rattle.apl_model.specs.declared.functions.Axis.{Axis}

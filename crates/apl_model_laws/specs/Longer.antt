@@ -21,6 +21,7 @@ IsContinued k (done a s) o = o ≡ done a (with_more k s)
 IsContinued k (fails kind place s) o = o ≡ fails kind place (with_more k s)
 IsContinued k (spent s) o = BeginsWith (state_of o).printed s.printed
 
+-- a part of a run goes on with more turns, from each state
 abbrev pub GoesOn : {A : Type 0} → (State → Outcome State A) → Type 0
 GoesOn act = (k : ℕ) (s : State) → IsContinued k (act s) (act (with_more k s))
 
@@ -35,6 +36,7 @@ IsContinuedBy well k r q = q ≡ record r { state = with_more k r.state }
 IsContinuedBy reported k r q = q ≡ record r { state = with_more k r.state }
 IsContinuedBy out_of_turns k r q = BeginsWith q.state.printed r.state.printed
 
+-- and so does a run of any items
 abbrev pub RunsGoOn : Type 0
 RunsGoOn = (script : Script) (items : List Item) (n k : ℕ) →
     let r = run_items script items n in IsContinuedBy r.ending k r (run_items script items (n + k))

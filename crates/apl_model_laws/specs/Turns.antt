@@ -35,6 +35,7 @@ CallsKeepTurns calls = (f : List ℕ) (place : Place) (left right : Option Array
 abbrev pub ExpressionsKeepTurns : Type 0
 ExpressionsKeepTurns = (calls : Calls) → CallsKeepTurns calls → (t : Tree) → KeepsTurns (value_of calls t)
 
+-- and so do positions
 abbrev pub PositionsKeepTurns : Type 0
 PositionsKeepTurns = (calls : Calls) → CallsKeepTurns calls → (qs : Positions) → KeepsTurns (positions_of calls qs)
 
@@ -51,6 +52,7 @@ pub record IsWithinTurns (n : ℕ) (s : State) : Type 0 where
   pub turns : s.turns + s.begun ≡ n
   pub ended : length s.ended ≤ s.begun
 
+-- a run of any items does
 abbrev pub RunsKeepTurns : Type 0
 RunsKeepTurns = (script : Script) (items : List Item) (n : ℕ) → IsWithinTurns n (run_items script items n).state
 
@@ -60,6 +62,7 @@ ImmediateEndsAtMost = (script : Script) (n : ℕ) → length (immediate script n
 
 -- ---- a run that is spent has no turns left
 
+-- where an outcome is spent, its state has no turns
 abbrev pub IsSpentOut : {A : Type 0} → Outcome State A → Type 0
 IsSpentOut (done a s) = Unit {0}
 IsSpentOut (fails kind place s) = Unit {0}
@@ -69,16 +72,19 @@ IsSpentOut (spent s) = s.turns ≡ 0
 abbrev pub SpendsAll : {A : Type 0} → (State → Outcome State A) → Type 0
 SpendsAll act = (s : State) → IsSpentOut (act s)
 
+-- each call does
 abbrev pub CallsSpendAll : Calls → Type 0
 CallsSpendAll calls = (f : List ℕ) (place : Place) (left right : Option Array) → SpendsAll (calls f place left right)
 
--- an expression, positions and a statement are spent only with no turns left, where that holds of the calls
+-- an expression is spent only with no turns left, where that holds of the calls
 abbrev pub ExpressionsSpendAll : Type 0
 ExpressionsSpendAll = (calls : Calls) → CallsSpendAll calls → (t : Tree) → SpendsAll (value_of calls t)
 
+-- so are positions
 abbrev pub PositionsSpendAll : Type 0
 PositionsSpendAll = (calls : Calls) → CallsSpendAll calls → (qs : Positions) → SpendsAll (positions_of calls qs)
 
+-- and so is a statement
 abbrev pub StatementsSpendAll : Type 0
 StatementsSpendAll = (calls : Calls) → CallsSpendAll calls → (t : Statement) → SpendsAll (statement_flow calls t)
 
@@ -91,6 +97,7 @@ pub record IsAllSpent (n : ℕ) (s : State) : Type 0 where
   pub turns : s.turns ≡ 0
   pub begun : s.begun ≡ n
 
+-- a run that ends out of turns is all spent
 abbrev pub RunsSpendAll : Type 0
 RunsSpendAll = (script : Script) (items : List Item) (n : ℕ) →
     let r = run_items script items n in r.ending ≡ out_of_turns → IsAllSpent n r.state

@@ -2,11 +2,10 @@
 use Rattle.std.proofs.Common.{◌≡◌, ◌∙◌, ap, subst, Option, Some, None}
 use Rattle.std.specs.Option.{option_or}
 use Rattle.apl_base.specs.declared.faults.Refusal.{Refusal}
-use Rattle.apl_model.specs.Refusal.{IsFirst}
-use Rattle.apl_read.specs.Answer.{IsRefusedAs, IsRefusedFirst}
-use Rattle.apl_read.specs.Refusals.{IsFirstIfAny}
-use Rattle.apl_read.specs.declared.faults.ReadFault.{ReadFault}
-use Rattle.apl_read.specs.declared.faults.ReadFault.TheVariants.{Refused, NoMemory}
+use Rattle.apl_model.specs.Refusal.{IsFirst, IsFirstIfAny}
+use Rattle.apl_model.specs.ReadFaults.{IsRefusedAs, IsRefusedFirst}
+use Rattle.apl_model.specs.declared.faults.ReadFault.{ReadFault}
+use Rattle.apl_model.specs.declared.faults.ReadFault.TheVariants.{Refused, NoMemory}
 
 -- the first of two is the refusal
 pub refused_or : (fault : ReadFault) (a b : Option Refusal) → IsRefusedAs fault a → IsRefusedAs fault (option_or a b)

@@ -11,10 +11,10 @@ use Rattle.apl_base.specs.declared.faults.Cause.TheVariants as cause
 use Rattle.apl_base.specs.declared.faults.Refusal.{Refusal}
 use Rattle.apl_model.specs.Characters.{is_letter, begins_number, code, is_glyph, read_as, is_number_part, number_of, is_blank}
 use Rattle.apl_model.specs.Lines.{readable, without_mark, cut, onto_first, without_return, texts_of, numbered, lines_of}
-use Rattle.apl_model.specs.Refusal.{refusal, place_after, place_of_end, IsReadingRefusal, ill_formed, long_line, at_fault, rank, phase, order, IsNotAfter, IsFirst}
+use Rattle.apl_model.specs.Refusal.{refusal, place_after, place_of_end, IsReadingRefusal, ill_formed, long_line, at_fault, rank, phase, order, IsNotAfter, IsFirst, IsFirstIfAny}
 use Rattle.apl_model.specs.Tokens.{Found, number, text, name, glyph, fault, Beginning, quoted, Quoted, name_at, number_at, text_at, beginning, Piece, pieces_after, pieces, tokens, IsSound, AreSound, IsRead}
 use Rattle.apl_model.specs.declared.tokens.Line.{Line}
-use Rattle.apl_read.specs.Refusals.{Fault, first_fault, long_fault, line_fault, refusal_of_fault, lines_refusal, bytes_refusal, reading_refusal, IsFirstIfAny}
+use Rattle.apl_read.specs.Refusals.{Fault, first_fault, long_fault, line_fault, refusal_of_fault, lines_refusal, bytes_refusal, reading_refusal}
 
 -- ---- Members of a list ----
 

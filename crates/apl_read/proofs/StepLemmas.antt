@@ -10,9 +10,9 @@ use Rattle.apl_model.specs.Tokens.{Beginning, beginning, Piece, text, pieces_aft
 use Rattle.apl_base.specs.declared.faults.Refusal.{Refusal}
 use Rattle.apl_model.specs.declared.tokens.Token.{Token}
 use Rattle.apl_model.specs.declared.tokens.Word.TheVariants as word
-use Rattle.apl_read.specs.Answer.{IsRefusedAs, IsInColumn}
-use Rattle.apl_read.specs.declared.faults.ReadFault.{ReadFault}
-use Rattle.apl_read.specs.declared.faults.ReadFault.TheVariants.{Refused, NoMemory}
+use Rattle.apl_model.specs.ReadFaults.{IsRefusedAs, IsInColumn}
+use Rattle.apl_model.specs.declared.faults.ReadFault.{ReadFault}
+use Rattle.apl_model.specs.declared.faults.ReadFault.TheVariants.{Refused, NoMemory}
 use Rattle.std.specs.Option.{option_map}
 use Rattle.apl_read.proofs.FirstRefusal.{fault_from}
 use Rattle.apl_read.specs.Pieces.{pieces_from, made_before}

@@ -1,4 +1,3 @@
-pub mod Answer
 pub mod NoNumbers
 pub mod Pieces
 pub mod Refusals

@@ -6,7 +6,7 @@ use Rattle.apl_base.specs.declared.faults.Cause.{Cause}
 use Rattle.apl_base.specs.declared.faults.Cause.TheVariants as cause
 use Rattle.apl_base.specs.declared.faults.Refusal.{Refusal}
 use Rattle.apl_model.specs.Lines.{texts_of}
-use Rattle.apl_model.specs.Refusal.{refusal, place_of_end, IsFirst}
+use Rattle.apl_model.specs.Refusal.{refusal, place_of_end}
 use Rattle.apl_model.specs.Tokens.{Found, Piece, pieces, fault}
 
 -- a cause, at a column of a line
@@ -51,8 +51,3 @@ bytes_refusal bytes =
 -- the first refusal of a script's bytes and characters. What can't be read stands behind all that can
 abbrev pub reading_refusal : List ℕ → Option Refusal
 reading_refusal bytes = option_or (lines_refusal 1 (texts_of bytes)) (bytes_refusal bytes)
-
--- the first of the refusals that there are, or none where there is none
-abbrev pub IsFirstIfAny : (Refusal → Type 0) → Option Refusal → Type 0
-IsFirstIfAny Refuses None = (r : Refusal) → ¬ (Refuses r)
-IsFirstIfAny Refuses (Some r) = IsFirst Refuses r

@@ -5,13 +5,13 @@ use Rattle.std.specs.List.{list_all, before_first, after_first, filter_map}
 use Rattle.std.specs.Option.{option_or}
 use Rattle.std.specs.Str.Parse.{digits_value}
 use Rattle.apl_base.specs.declared.faults.Refusal.{Refusal}
+use Rattle.apl_base.specs.declared.faults.TheConstants.{MOST_BYTES}
 use Rattle.apl_base.specs.declared.faults.Cause.TheVariants.{TooLong, NotBuilt}
 use Rattle.apl_model.specs.Lines.{lines_of}
 use Rattle.apl_model.specs.declared.tokens.Line.{Line}
 use Rattle.apl_read.specs.Refusals.{reading_refusal}
 use Rattle.apl_read.specs.declared.sums.Sum.{Sum}
 use Rattle.apl_read.specs.declared.sums.Sum.TheVariants.{Empty, One, Two}
-use Rattle.apl_read.specs.declared.script.TheConstants.{MOST_BYTES}
 
 -- an operand is 1 to 17 digits
 abbrev pub is_operand : List ℕ → Bool

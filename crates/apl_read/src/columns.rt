@@ -2,17 +2,16 @@
 ghost use Rattle.std.specs.Prelude.{◌≡◌, ℕ, ◌+◌, ◌<◌, ◌≤◌, ◌^◌, List, [], ◌∷◌, length, OnOk, IfOk, IfErr, None};
 ghost use Rattle.std.specs.Option.{option_map};
 ghost use Rattle.apl_model.specs.Tokens.{Piece, tokens, tokens_of_pieces};
-ghost use Rattle.apl_read.specs.Answer.{IsRefusedAs, IsInColumn};
+ghost use Rattle.apl_model.specs.ReadFaults.{IsRefusedAs, IsInColumn};
 ghost use Rattle.apl_read.specs.Pieces.{found_of, made_before, pieces_from};
 ghost use Rattle.apl_read.specs.Refusals.{first_fault, line_fault, refusal_of_fault};
 
 use crate::characters::blank;
-use crate::faults::ReadFault;
 use crate::made::Made;
 use crate::pieces::{Found, begin};
 use crate::quotes::cells_of;
 use apl_base::{Cause, NoMemory, Refusal};
-use apl_model::{Token, Word};
+use apl_model::{ReadFault, Token, Word};
 use sqlite_items::Items;
 use std::alloc::Global;
 

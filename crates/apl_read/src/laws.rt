@@ -3,8 +3,8 @@
 ghost use Rattle.std.specs.Prelude.{◌≡◌, ℕ, List, [], ◌∷◌, Some, None, codes};
 ghost use Rattle.apl_base.specs.declared.faults.Cause.TheVariants as cause;
 ghost use Rattle.apl_model.specs.Lines.{texts_of};
-ghost use Rattle.apl_model.specs.Refusal.{IsReadingRefusal, refusal};
-ghost use Rattle.apl_read.specs.Refusals.{IsFirstIfAny, reading_refusal};
+ghost use Rattle.apl_model.specs.Refusal.{IsReadingRefusal, refusal, IsFirstIfAny};
+ghost use Rattle.apl_read.specs.Refusals.{reading_refusal};
 ghost use Rattle.apl_read.specs.Sums.{refusal_of, sums_of, not_built};
 ghost use Rattle.apl_read.specs.declared.sums.Sum.TheVariants.{Empty, One, Two};
 

@@ -5,7 +5,6 @@
 
 mod characters;
 mod columns;
-mod faults;
 pub mod laws;
 mod made;
 mod numbers;
@@ -16,10 +15,6 @@ mod script_lines;
 mod script_tokens;
 mod sums;
 
-pub use faults::ReadFault;
-pub use script::{MOST_BYTES, read_script};
+pub use script::read_script;
 pub use script_tokens::tokens;
 pub use sums::Sum;
-
-#[cfg(test)]
-mod tests;

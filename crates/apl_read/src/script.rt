@@ -2,19 +2,15 @@ ghost use Rattle.std.specs.Prelude.{◌≡◌, None, OnOk, IfOk, IfErr};
 ghost use Rattle.std.specs.List.{filter_map};
 ghost use Rattle.apl_model.specs.Lines.{lines_of};
 ghost use Rattle.apl_read.specs.Sums.{sum_of, sum_of_line, refusal_of, sums_of, first_not_built};
-ghost use Rattle.apl_read.specs.Answer.{IsRefusedAs};
+ghost use Rattle.apl_model.specs.ReadFaults.{IsRefusedAs};
 
 use crate::columns::refuse;
-use crate::faults::ReadFault;
 use crate::script_lines::characters_of;
 use crate::script_tokens::tokens;
 use crate::sums::{Sum, read_sum};
-use apl_base::{Cause, NoMemory};
-use apl_model::{Line, Text};
+use apl_base::{Cause, MOST_BYTES, NoMemory};
+use apl_model::{Line, ReadFault, Text};
 use std::alloc::Global;
-
-/// The most bytes that a script may have.
-pub const MOST_BYTES: usize = 1_048_576;
 
 /// What the text of a line says, where it is of the form.
 fn sum_of_text(alloc: Global, text: &Text) -> Result<Option<Sum>, NoMemory>

@@ -6,14 +6,13 @@ ghost use Rattle.std.specs.Str.Lossy.{utf8_valid_len};
 ghost use Rattle.apl_model.specs.Lines.{without_mark, cut, without_return, lines_of, numbered};
 ghost use Rattle.apl_model.specs.Refusal.{place_after};
 ghost use Rattle.apl_model.specs.Tokens as model;
-ghost use Rattle.apl_read.specs.Answer.{IsRefusedAs};
+ghost use Rattle.apl_model.specs.ReadFaults.{IsRefusedAs};
 ghost use Rattle.apl_read.specs.Refusals.{line_fault, refusal_of_fault, lines_refusal, reading_refusal};
 
 use crate::columns::{read_columns, refuse};
-use crate::faults::ReadFault;
 use crate::pieces::string_of;
 use apl_base::{Cause, NoMemory};
-use apl_model::{Line, Text};
+use apl_model::{Line, ReadFault, Text};
 use sqlite_items::Items;
 use std::alloc::Global;
 use std::str;

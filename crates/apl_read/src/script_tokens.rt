@@ -7,12 +7,11 @@ ghost use Rattle.apl_model.specs.Lines.{lines_of};
 ghost use Rattle.apl_model.specs.Refusal.{IsReadingRefusal};
 ghost use Rattle.apl_model.specs.Tokens.{IsRead};
 ghost use Rattle.apl_model.specs.declared.tokens.Line.{Line};
-ghost use Rattle.apl_read.specs.Answer.{IsRefusedAs, IsRefusedFirst};
+ghost use Rattle.apl_model.specs.ReadFaults.{IsRefusedAs, IsRefusedFirst};
 ghost use Rattle.apl_read.specs.Refusals.{reading_refusal};
 
-use crate::faults::ReadFault;
 use crate::script_lines::read_bytes;
-use apl_model::Lines;
+use apl_model::{Lines, ReadFault};
 use sqlite_items::Items;
 use std::alloc::Global;
 

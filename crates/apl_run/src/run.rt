@@ -9,8 +9,9 @@ ghost use Rattle.apl_run.specs.Statuses.{IsAnswer, IsAnswerOrNoMemory, IsCutShor
 use crate::print::{print_lines, print_refusal};
 use crate::statuses::{Ended, Status, Workspace};
 use apl_base::{Cause, MOST_BYTES, Refusal};
+use apl_model::ReadFault;
 use apl_outside::{ReadEnd, Sink, Source, push_all, read_all};
-use apl_read::{ReadFault, read_script};
+use apl_read::read_script;
 use std::alloc::Global;
 
 /// Runs the script that the source has left: `words` are those of the command line, `out` is given what is

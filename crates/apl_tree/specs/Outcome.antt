@@ -1,21 +1,12 @@
 -- What the reader answers.
-use Rattle.std.specs.Prelude.{◌≡◌, ℕ, List, ◌∷◌, ◌++◌, Some, None, Result, Ok, Err}
-use Rattle.apl_base.specs.declared.faults.Refusal.{Refusal}
+use Rattle.std.specs.Prelude.{◌≡◌, ℕ, List, ◌∷◌, ◌++◌, Some, None}
 use Rattle.apl_model.proofs.Machine as machine
 use Rattle.apl_model.specs.Mirror.{statement_of}
 use Rattle.apl_model.specs.Refusal.{past_last}
 use Rattle.apl_model.specs.declared.tokens.Heading.{Heading}
 use Rattle.apl_model.specs.declared.tokens.Token.{Token}
-use Rattle.apl_read.specs.declared.faults.ReadFault.{ReadFault}
-use Rattle.apl_read.specs.declared.faults.ReadFault.TheVariants as fault
 use Rattle.apl_tree.specs.declared.statements.Reading.{Reading}
 use Rattle.apl_tree.specs.declared.statements.Reading.TheVariants as reading
-
--- a fact of the refusal, where the answer is one
-abbrev pub IfRefused : {A : Type 0} → Result A ReadFault → (Refusal → Type 0) → Type 0
-IfRefused (Ok a) P = Unit {0}
-IfRefused (Err (fault.Refused r)) P = P r
-IfRefused (Err fault.NoMemory) P = Unit {0}
 
 -- where the reader stops: at a token that it can't take, or at the end
 pub data Stops (hs : List Heading) (n : ℕ) (ts : List Token) (column : ℕ) : Type 0 where

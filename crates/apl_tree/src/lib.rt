@@ -11,8 +11,6 @@ mod reader;
 mod sorts;
 mod statements;
 mod steps;
-#[cfg(test)]
-mod tests;
 mod waits;
 
 pub use lookups::Lookup;

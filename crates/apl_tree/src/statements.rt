@@ -5,15 +5,15 @@ ghost use Rattle.apl_model.specs.Mirror.{statement_of};
 ghost use Rattle.apl_model.specs.Refusal as refusal;
 ghost use Rattle.apl_model.specs.Spelling.{Spell, statement_spelling};
 ghost use Rattle.apl_tree.specs.Condition.{AreTokensOf};
-ghost use Rattle.apl_tree.specs.Outcome.{IfRefused, IsReading};
+ghost use Rattle.apl_model.specs.ReadFaults.{IfRefused};
+ghost use Rattle.apl_tree.specs.Outcome.{IsReading};
 
 use crate::arguments::NameClasses;
 use crate::lookups::Lookup;
 use crate::reader::Reader;
 use crate::sorts::classify;
 use apl_base::{Cause, NoMemory, Place, Refusal};
-use apl_model::{Classes, Line, Statement, Token};
-use apl_read::ReadFault;
+use apl_model::{Classes, Line, ReadFault, Statement, Token};
 use std::alloc::Global;
 
 /// What tokens are: a statement, or none, with the column at which they stop being the beginning of one.

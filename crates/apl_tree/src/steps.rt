@@ -222,30 +222,67 @@ fn assigned(opens: Opens, tree: Expr) -> Result<Option<Reader>, NoMemory>
     }
 }
 
-/// A name after an operand.
+/// A name after an operand: that of a function of two arguments.
 fn followed_by_name(
-    alloc: Global,
     opens: Opens,
-    tree: Expr,
+    left: Boxed<Expr>,
     name: Name,
     arguments: Option<u8>,
     place: Place,
 ) -> Result<Option<Reader>, NoMemory>
-    ensures { IfOk result (λ r. reading_of r ≡ machine.followed (stack_of opens) (tree_of tree) place (machine.named name arguments)) }
+    ensures { IfOk result (λ r. reading_of r
+        ≡ machine.followed_by_name (stack_of opens) (tree_of left) place name arguments) }
 {
     match arguments {
-        Some(2) => {
-            let left = Boxed::new(alloc, tree)?;
-            awaits(
-                opens,
-                Wait::Call {
-                    f: name,
-                    left: Some(left),
-                    place,
-                },
-            )
-        }
+        Some(2) => awaits(
+            opens,
+            Wait::Call {
+                f: name,
+                left: Some(left),
+                place,
+            },
+        ),
         _ => Ok(None),
+    }
+}
+
+/// What takes an axis in brackets, or goes on with a dot, after an operand.
+fn followed_along(opens: Opens, left: Boxed<Expr>, sort: Sort, place: Place) -> Option<Reader>
+    ensures { reading_of result
+        ≡ machine.followed_along (stack_of opens) (tree_of left) place (sort_of sort) }
+{
+    let along = match sort {
+        Sort::Turn => Along::Rotates { left, place },
+        Sort::Slash => Along::Compresses { left, place },
+        Sort::Backslash => Along::Expands { left, place },
+        Sort::Jot => return at(opens, Status::AfterJot { left, place }),
+        _ => return None,
+    };
+    at(opens, Status::AxisOrNone { along })
+}
+
+/// A function after an operand, which is its left argument.
+fn followed_by(
+    opens: Opens,
+    left: Boxed<Expr>,
+    sort: Sort,
+    place: Place,
+) -> Result<Option<Reader>, NoMemory>
+    ensures { IfOk result (λ r. reading_of r
+        ≡ machine.followed_by (stack_of opens) (tree_of left) place (sort_of sort)) }
+{
+    match sort {
+        Sort::Named { name, arguments } => followed_by_name(opens, left, name, arguments, place),
+        Sort::Scalar { f, .. } => Ok(at(opens, Status::GlyphAfter { f, left, place })),
+        Sort::Plain {
+            between: Some(f),
+            ..
+        } => awaits(opens, Wait::Two { f, left, place }),
+        Sort::SlashFirst => {
+            let f = DyaFn::Compress { axis: Axis::First };
+            awaits(opens, Wait::Two { f, left, place })
+        }
+        other => Ok(followed_along(opens, left, other, place)),
     }
 }
 
@@ -257,76 +294,59 @@ fn followed(
     sort: Sort,
     place: Place,
 ) -> Result<Option<Reader>, NoMemory>
-    ensures { IfOk result (λ r. reading_of r ≡ machine.followed (stack_of opens) (tree_of tree) place (sort_of sort)) }
+    ensures { IfOk result (λ r. reading_of r
+        ≡ machine.followed (stack_of opens) (tree_of tree) place (sort_of sort)) }
 {
     match sort {
-        Sort::Named { name, arguments } => followed_by_name(
-            alloc, opens, tree, name, arguments, place,
-        ),
-        Sort::Scalar { f, .. } => {
-            let left = Boxed::new(alloc, tree)?;
-            Ok(at(opens, Status::GlyphAfter { f, left, place }))
-        }
-        Sort::Plain {
-            between: Some(f),
-            ..
-        } => {
-            let left = Boxed::new(alloc, tree)?;
-            awaits(opens, Wait::Two { f, left, place })
-        }
-        Sort::SlashFirst => {
-            let left = Boxed::new(alloc, tree)?;
-            let f = DyaFn::Compress { axis: Axis::First };
-            awaits(opens, Wait::Two { f, left, place })
-        }
-        Sort::Turn => {
-            let left = Boxed::new(alloc, tree)?;
-            let along = Along::Rotates { left, place };
-            Ok(at(opens, Status::AxisOrNone { along }))
-        }
-        Sort::Slash => {
-            let left = Boxed::new(alloc, tree)?;
-            let along = Along::Compresses { left, place };
-            Ok(at(opens, Status::AxisOrNone { along }))
-        }
-        Sort::Backslash => {
-            let left = Boxed::new(alloc, tree)?;
-            let along = Along::Expands { left, place };
-            Ok(at(opens, Status::AxisOrNone { along }))
-        }
-        Sort::Jot => {
-            let left = Boxed::new(alloc, tree)?;
-            Ok(at(opens, Status::AfterJot { left, place }))
-        }
         Sort::Assign => assigned(opens, tree),
-        Sort::OpenBracket => {
-            let positions = Items::new(alloc);
-            let opens = opens.enter(Bracket::Subscript {
-                array: tree,
-                positions,
-                place,
-            })?;
-            Ok(at(opens, Status::May))
-        }
+        Sort::OpenBracket => subscripted(alloc, opens, tree, place),
         Sort::CloseParen => close_parenthesis(alloc, opens.close(alloc, tree)?),
         Sort::CloseBracket => {
-            let Closed {
-                tree,
-                bracket,
-                opens,
-            } = opens.close(alloc, tree)?;
-            close_subscript(alloc, Left { bracket, opens }, Some(tree))
+            let (left, last) = parted(opens.close(alloc, tree)?);
+            close_subscript(alloc, left, Some(last))
         }
         Sort::Semicolon => {
-            let Closed {
-                tree,
-                bracket,
-                opens,
-            } = opens.close(alloc, tree)?;
-            next_position(Left { bracket, opens }, Some(tree))
+            let (left, last) = parted(opens.close(alloc, tree)?);
+            next_position(left, Some(last))
         }
-        _ => Ok(None),
+        other => {
+            let left = Boxed::new(alloc, tree)?;
+            followed_by(opens, left, other, place)
+        }
     }
+}
+
+/// `[` after an operand: a subscript begins.
+fn subscripted(
+    alloc: Global,
+    opens: Opens,
+    array: Expr,
+    place: Place,
+) -> Result<Option<Reader>, NoMemory>
+    ensures { IfOk result (λ r. reading_of r
+        ≡ machine.followed (stack_of opens) (tree_of array) place machine.open_bracket) }
+{
+    let positions = Items::new(alloc);
+    let opens = opens.enter(Bracket::Subscript {
+        array,
+        positions,
+        place,
+    })?;
+    Ok(at(opens, Status::May))
+}
+
+/// A complete expression apart from the bracket that it stands in.
+fn parted(closed: Closed) -> (Left, Expr)
+    ensures bracket { result.0.bracket ≡ closed.bracket }
+    ensures opens { result.0.opens ≡ closed.opens }
+    ensures tree { result.1 ≡ closed.tree }
+{
+    let Closed {
+        tree,
+        bracket,
+        opens,
+    } = closed;
+    (Left { bracket, opens }, tree)
 }
 
 /// A token after a scalar function where an expression begins.

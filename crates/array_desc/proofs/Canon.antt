@@ -52,7 +52,8 @@ zeros_same (s ∷ ss) (t ∷ ts) l x y =
 zeros_same [] (t ∷ ts) l x y = absurd (omega (arith, l))
 zeros_same (s ∷ ss) [] l x y = absurd (omega (arith, l))
 
-parts_same : (d e : DescView) → d.base ≡ e.base → d.strides ≡ e.strides → d.shape ≡ e.shape → d ≡ e
+-- descriptors with the same base, strides and lengths are the same
+pub parts_same : (d e : DescView) → d.base ≡ e.base → d.strides ≡ e.strides → d.shape ≡ e.shape → d ≡ e
 parts_same d e p q r = λ i. record { base = p i; strides = q i; shape = r i }
 
 by_size : (d e : DescView) (n : ℕ) → n ≡ size_of d.shape → IsDesc d → IsDesc e → d.shape ≡ e.shape → ((i : List ℕ) → IsIndex d.shape i → number d i ≡ number e i) → d ≡ e

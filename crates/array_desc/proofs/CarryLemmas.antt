@@ -11,7 +11,8 @@ use Rattle.apl_base.specs.Array.{IsIndex, size_of, place_at}
 use Rattle.apl_base.specs.Selection.{only_index}
 use Rattle.array_desc.specs.Desc.{dot}
 use Rattle.array_desc.specs.Rows.{Carries}
-use Rattle.array_desc.proofs.Indices.{first_index, length_of_index}
+use Rattle.apl_base.proofs.Sizes.{IsIndex-length, IsIndex-below}
+use Rattle.array_desc.proofs.Indices.{first_index}
 use Rattle.array_desc.proofs.Sums.{dot-zeros}
 
 place_at-zeros : (ns : List ℕ) → place_at ns (only_index ns) ≡ 0
@@ -75,15 +76,9 @@ regroup_back b d p = omega (arith, ints)
 regroup_on : (b d s x y : ℤ) → x ≡ (y -ℤ d) +ℤ s → (b -ℤ d) +ℤ s ≡ b +ℤ (x -ℤ y)
 regroup_on b d s x y e = omega (arith, ints, e)
 
-index_below : (ns is : List ℕ) (k : ℕ) → IsIndex ns is → k < length ns → get_or is k 0 < get_or ns k 0
-index_below (n ∷ ns) (i ∷ is) zero q p = q.0
-index_below (n ∷ ns) (i ∷ is) (suc k) q p = index_below ns is k q.1 (omega (arith, p))
-index_below [] is k q p = absurd (omega (arith, p))
-index_below (n ∷ ns) [] k q p = absurd q
-
 pub carry_begins : (ss : List ℤ) (ns old : List ℕ) (b : ℤ) → FitsSigned w128 b → length ss ≡ length ns → IsIndex ns old → CarriedTo ss ns old old (length ns) b b
 carry_begins ss ns old b f l q =
-    let m = length_of_index ns old q in
+    let m = IsIndex-length ns old q in
     let d = drop_of_length-le ns {i = length ns} (omega arith) in
     let e = drop_of_length-le ss {i = length ns} (omega (arith, l)) in
     record {
@@ -110,12 +105,12 @@ last_place i n s p b h e = let f : n ≡ i + 1 = omega (arith, b, h) in rw f (om
 
 round_back : (ss : List ℤ) (ns old index : List ℕ) (k : ℕ) (before number product after : ℤ) → suc k ≤ length ns → length ss ≡ length ns → IsIndex ns old → CarriedTo ss ns old index (suc k) before number → (get_or index k 0 + 1 < get_or ns k 0 → ⊥) → product ≡ int_wrap w128 (get_or ss k (pos 0) *ℤ pos (get_or index k 0)) → after ≡ int_wrap w128 (number -ℤ product) → CarriedTo ss ns old (slice_set index k 0) k before after
 round_back ss ns old index k before number product after p l q h c m a =
-    let o : k < length old = omega (arith, p, length_of_index ns old q) in
+    let o : k < length old = omega (arith, p, IsIndex-length ns old q) in
     let g : get_or index k 0 ≡ get_or old k 0 = ap (λ v. get_or v k 0) h.is ∙ get_there k old (only_index (drop (suc k) ns)) o in
     let ed = drop-cons ns k 0 p in
     let eo = drop-cons old k 0 o in
     let es = drop-cons ss k (pos 0) (omega (arith, p, l)) in
-    let b = index_below ns old k q p in
+    let b = IsIndex-below ns old k q p in
     record {
       here = omega (arith, p);
       is = ap (λ v. slice_set v k 0) h.is ∙ set_there k 0 old (only_index (drop (suc k) ns)) o ∙ ap (λ v. take k old ++ only_index v) (sym ed);
@@ -131,7 +126,7 @@ carry_round ss ns old index (suc k) before number product after z p l q h c m a 
 
 stop_there : (ss : List ℤ) (ns old index : List ℕ) (k : ℕ) (before number after : ℤ) → suc k ≤ length ns → length ss ≡ length ns → IsIndex ns old → CarriedTo ss ns old index (suc k) before number → get_or index k 0 + 1 < get_or ns k 0 → after ≡ int_wrap w128 (number +ℤ get_or ss k (pos 0)) → Carries ss ns old (slice_set index k (get_or index k 0 + 1)) before after
 stop_there ss ns old index k before number after p l q h c a =
-    let o : k < length old = omega (arith, p, length_of_index ns old q) in
+    let o : k < length old = omega (arith, p, IsIndex-length ns old q) in
     let g : get_or index k 0 ≡ get_or old k 0 = ap (λ v. get_or v k 0) h.is ∙ get_there k old (only_index (drop (suc k) ns)) o in
     let e : slice_set index k (get_or index k 0 + 1) ≡ next_at k ns old =
     ap (λ v. slice_set v k (get_or index k 0 + 1)) h.is ∙ set_there k (get_or index k 0 + 1) old (only_index (drop (suc k) ns)) o ∙ ap (λ v. take k old ++ (v + 1) ∷ only_index (drop (suc k) ns)) g in
@@ -164,5 +159,5 @@ pub carry_below : (ss : List ℤ) (ns old index : List ℕ) (k : ℕ) (before nu
 carry_below ss ns old index zero before number z q h = absurd (omega (arith, z))
 carry_below ss ns old index (suc k) before number z q h =
     let e : suc k - 1 ≡ k = omega arith in
-    let o : k < length old = omega (arith, h.here, length_of_index ns old q) in
-    rw (e, h.is, get_there k old (only_index (drop (suc k) ns)) o) (index_below ns old k q h.here)
+    let o : k < length old = omega (arith, h.here, IsIndex-length ns old q) in
+    rw (e, h.is, get_there k old (only_index (drop (suc k) ns)) o) (IsIndex-below ns old k q h.here)

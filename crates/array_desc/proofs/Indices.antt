@@ -1,13 +1,7 @@
--- Indices of a shape: the first one, and how many there are.
-use Rattle.std.proofs.Common.{◌≡◌, ℕ, zero, suc, ◌*◌, ◌<◌, List, [], ◌∷◌, length, refl, ap, arith}
+-- The first index of a shape.
+use Rattle.std.proofs.Common.{ℕ, zero, suc, ◌*◌, ◌<◌, List, [], ◌∷◌, arith}
 use Rattle.apl_base.specs.Array.{IsIndex, size_of}
 use Rattle.apl_base.specs.Selection.{only_index}
-
-pub length_of_index : (ns is : List ℕ) → IsIndex ns is → length is ≡ length ns
-length_of_index [] [] h = refl
-length_of_index (n ∷ ns) (i ∷ is) h = ap suc (length_of_index ns is h.1)
-length_of_index [] (i ∷ is) h = absurd h
-length_of_index (n ∷ ns) [] h = absurd h
 
 -- where there is an index, the first one is all zeros
 pub first_index : (ns is : List ℕ) → IsIndex ns is → IsIndex ns (only_index ns)
@@ -15,14 +9,6 @@ first_index [] [] h = tt
 first_index (n ∷ ns) (i ∷ is) h = (omega (arith, h.0), first_index ns is h.1)
 first_index [] (i ∷ is) h = absurd h
 first_index (n ∷ ns) [] h = absurd h
-
--- a shape with an index has an element
-pub size_with_index : (ns is : List ℕ) → IsIndex ns is → 0 < size_of ns
-size_with_index [] [] h = omega arith
-size_with_index (zero ∷ ns) (i ∷ is) h = absurd (omega (arith, h.0))
-size_with_index (suc n ∷ ns) (i ∷ is) h = omega (arith, size_with_index ns is h.1)
-size_with_index [] (i ∷ is) h = absurd h
-size_with_index (n ∷ ns) [] h = absurd h
 
 pub positive : (n m : ℕ) → 0 < suc n * m → 0 < m
 positive n zero h = absurd (omega (arith, h))

@@ -7,7 +7,7 @@ use Rattle.apl_base.specs.Array.{IsShape, IsIndex, size_of}
 use Rattle.apl_base.specs.Number.{IsNumber}
 use Rattle.array_desc.specs.Desc.{DescView, IsDesc, IsZero, ShortAxesRest, dot, number}
 use Rattle.array_desc.specs.Steps.{paired, stride_kept}
-use Rattle.array_desc.proofs.Indices.{size_with_index}
+use Rattle.apl_base.proofs.Sizes.{IsIndex-positive}
 use Rattle.array_desc.proofs.Sums.{Numbers}
 
 -- the descriptor kept of a base and strides
@@ -41,7 +41,7 @@ not_empty n p = grind (arith, nat_tests)
 
 pub number-kept : (empty : Bool) (b : ℤ) (ss : List ℤ) (ns i : List ℕ) → empty ≡ (size_of ns == 0) → IsIndex ns i → number (kept empty b ss ns) i ≡ b +ℤ dot ss i
 number-kept empty b ss ns i e q =
-    let f : empty ≡ false = e ∙ not_empty (size_of ns) (size_with_index ns i q) in
+    let f : empty ≡ false = e ∙ not_empty (size_of ns) (IsIndex-positive ns i q) in
     rw (f, dot-kept ss ns i q) refl
 
 pub short-kept : (empty : Bool) (ss : List ℤ) (ns : List ℕ) → ShortAxesRest (paired (stride_kept empty) ss ns) ns

@@ -1,4 +1,3 @@
-pub mod Algebra
 pub mod Transposition
 pub mod Canon
 pub mod CarryLemmas

@@ -13,8 +13,9 @@ use Rattle.apl_base.specs.Array.{IsShape, IsIndex, size_of}
 use Rattle.apl_base.specs.Selection.{only_index, taken, take_index, take_shape, CountsFit, dropped, drop_index, drop_shape, run_place, run_index, run_shape, at_shape, at_index, reverse_index, outer_left_index, outer_right_index}
 use Rattle.array_desc.specs.Desc.{DescView, IsDesc, RunFits, dot}
 use Rattle.array_desc.specs.Steps.{paired, WindowFits, window_start, window_length}
-use Rattle.array_desc.proofs.Algebra.{mul_add, mul_assoc}
-use Rattle.array_desc.proofs.Indices.{length_of_index, index_with_size}
+use Rattle.apl_base.proofs.Integers.{mul_add, mul_assoc, magnitude-is}
+use Rattle.apl_base.proofs.Sizes.{IsIndex-length, IsIndex-below}
+use Rattle.array_desc.proofs.Indices.{index_with_size}
 use Rattle.array_desc.proofs.Sums.{Meets, Near, Stands, near-same, near-set, meets-near, dot-zeros}
 
 -- ---- a window: part of each axis from a start on
@@ -55,7 +56,7 @@ window-meets old starts lengths d h = record {
   index = λ i q. window_index old.shape starts lengths i h q;
   same = λ i q.
       let e = window_lengths old.shape starts lengths h in
-      let l = length_of_index lengths i q in
+      let l = IsIndex-length lengths i q in
       let f = dot-paired old.strides starts i (e.0 ∙ sym e.1 ∙ sym l) in
       omega (arith, ints, f);
 }
@@ -65,12 +66,9 @@ window-meets old starts lengths d h = record {
 regroup_run : (b p z : ℤ) → (b +ℤ p) +ℤ z ≡ b +ℤ (p +ℤ z)
 regroup_run b p z = omega (arith, ints)
 
-abs_is_pos : (z : ℤ) → pos 0 ≤ℤ z → pos (unsigned_abs z) ≡ z
-abs_is_pos z h = omega (arith, ints)
-
 run_term : (s step : ℤ) (from i : ℕ) → pos 0 ≤ℤ (pos from +ℤ (step *ℤ pos i)) → (s *ℤ pos from) +ℤ ((s *ℤ step) *ℤ pos i) ≡ s *ℤ pos (run_place from step i)
 run_term s step from i h =
-    rw (mul_assoc s step (pos i), ← mul_add s (pos from) (step *ℤ pos i), abs_is_pos (pos from +ℤ (step *ℤ pos i)) h) refl
+    rw (mul_assoc s step (pos i), ← mul_add s (pos from) (step *ℤ pos i), magnitude-is (pos from +ℤ (step *ℤ pos i)) h) refl
 
 run_dot : (ss : List ℤ) (is : List ℕ) (k from : ℕ) (step : ℤ) → k < length ss → length is ≡ length ss → pos 0 ≤ℤ (pos from +ℤ (step *ℤ pos (slice_index_or is k 0))) → (slice_index_or ss k (pos 0) *ℤ pos from) +ℤ dot (slice_set ss k (slice_index_or ss k (pos 0) *ℤ step)) is ≡ dot ss (run_index k from step is)
 run_dot [] is k from step p l h = absurd (omega (arith, p))
@@ -99,7 +97,7 @@ run_below : (n from : ℕ) (step : ℤ) (count j : ℕ) → RunFits n from step 
 run_below n from step count j r p =
     let a = r.low j p in
     let b = r.high j p in
-    let e = abs_is_pos (pos from +ℤ (step *ℤ pos j)) a in
+    let e = magnitude-is (pos from +ℤ (step *ℤ pos j)) a in
     let c : pos (run_place from step j) <ℤ pos n = subst (λ z. z <ℤ pos n) (sym e) b in
     omega (arith, ints, c)
 
@@ -110,7 +108,7 @@ run-meets old k from step count d p r = record {
       slot_index old.shape i k count (run_place from step (slice_index_or i k 0)) p
       (run_below (slice_index_or old.shape k 0) from step count (slice_index_or i k 0) r (slot_below old.shape i k count p q)) q;
   same = λ i q.
-      let l : length i ≡ length old.strides = length_of_index (run_shape k count old.shape) i q ∙ length-set old.shape k count ∙ sym d.strides in
+      let l : length i ≡ length old.strides = IsIndex-length (run_shape k count old.shape) i q ∙ length-set old.shape k count ∙ sym d.strides in
       let a = r.low (slice_index_or i k 0) (slot_below old.shape i k count p q) in
       let e = run_dot old.strides i k from step (omega (arith, d.strides, p)) l a in
       regroup_run old.base (slice_index_or old.strides k (pos 0) *ℤ pos from) (dot (slice_set old.strides k (slice_index_or old.strides k (pos 0) *ℤ step)) i) ∙ ap (λ z. old.base +ℤ z) e;
@@ -366,16 +364,9 @@ pub back_lengths : (ns : List ℕ) (k n : ℕ) → n ≡ slice_index_or ns k 0 �
 back_lengths ns k n e = rw e (same_slot ns k)
 
 back_reads : (last i : ℕ) → i ≤ last → run_place last (negsuc 0) i ≡ last - i
-back_reads last i p = let e = abs_is_pos (pos last +ℤ (negsuc 0 *ℤ pos i)) (omega (arith, ints)) in omega (arith, ints, e)
-
-index_below : (ns is : List ℕ) (k : ℕ) → k < length ns → IsIndex ns is → slice_index_or is k 0 < slice_index_or ns k 0
-index_below [] is k p q = absurd (omega (arith, p))
-index_below (n ∷ ns) (i ∷ is) zero p q = q.0
-index_below (n ∷ ns) (i ∷ is) (suc k) p q = index_below ns is k (omega (arith, p)) q.1
-index_below (n ∷ ns) [] zero p q = absurd q
-index_below (n ∷ ns) [] (suc k) p q = absurd q
+back_reads last i p = let e = magnitude-is (pos last +ℤ (negsuc 0 *ℤ pos i)) (omega (arith, ints)) in omega (arith, ints, e)
 
 pub reverse_reads : (ns : List ℕ) (k last : ℕ) → k < length ns → last ≡ slice_index_or ns k 0 - 1 → (is : List ℕ) → IsIndex ns is → run_index k last (negsuc 0) is ≡ reverse_index ns k is
 reverse_reads ns k last p e is q =
-    let b = index_below ns is k p q in
+    let b = IsIndex-below ns is k q p in
     rw (back_reads last (slice_index_or is k 0) (omega arith), e) refl

@@ -1,11 +1,11 @@
 -- Row-major order: the strides, and the place that they give.
-use Rattle.std.proofs.Common.{◌≡◌, ℕ, suc, ◌<◌, ℤ, pos, ◌+ℤ◌, List, [], ◌∷◌, length, map, refl, ap, sym, subst, ◌∙◌, arith}
+use Rattle.std.proofs.Common.{◌≡◌, ℕ, suc, ℤ, pos, ◌+ℤ◌, List, [], ◌∷◌, length, map, refl, ap, sym, subst, ◌∙◌, arith}
 use Rattle.std.specs.Int.{int_wrap}
 use Rattle.std.proofs.lemmas.Int.{ints}
-use Rattle.std.proofs.lemmas.Nat.{mul-add-lt}
 use mir.Syntax.{w128}
-use Rattle.apl_base.specs.Array.{IsShape, IsIndex, size_of, place_at}
+use Rattle.apl_base.specs.Array.{IsShape, IsIndex, place_at}
 use Rattle.apl_base.specs.Number.{IsNumber}
+use Rattle.apl_base.proofs.Sizes.{place_at-below}
 use Rattle.array_desc.specs.Desc.{DescView, dot, number}
 use Rattle.array_desc.specs.Steps.{IsSound, row_strides}
 use Rattle.array_desc.proofs.Sums.{Numbers, near-wraps, near-dot}
@@ -24,16 +24,9 @@ dot-row_strides (n ∷ ns) (i ∷ is) q = let e = dot-row_strides ns is q.1 in o
 dot-row_strides [] (i ∷ is) q = absurd q
 dot-row_strides (n ∷ ns) [] q = absurd q
 
-pub place_below : (ns is : List ℕ) → IsIndex ns is → place_at ns is < size_of ns
-place_below [] [] q = omega arith
-place_below (n ∷ ns) (i ∷ is) q =
-    let h = mul-add-lt i (size_of ns) (place_at ns is) n q.0 (place_below ns is q.1) in omega (arith, h)
-place_below [] (i ∷ is) q = absurd q
-place_below (n ∷ ns) [] q = absurd q
-
 small_place : (ns is : List ℕ) → IsShape ns → IsIndex ns is → IsNumber (pos (place_at ns is))
 small_place ns is s q =
-    let b = place_below ns is q in
+    let b = place_at-below ns is q in
     let m = s.product in
     record { least = omega (arith, ints); most = omega (arith, ints) }
 

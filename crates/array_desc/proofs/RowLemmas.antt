@@ -15,7 +15,7 @@ use Rattle.apl_base.specs.Array.{IsIndex, size_of, place_at, index_at}
 use Rattle.apl_base.proofs.Sizes.{IsIndex-index_at, place_at-index_at, index_at-place_at, place_at-below}
 use Rattle.array_desc.specs.Desc.{DescView, IsDesc, dot, number}
 use Rattle.array_desc.specs.Rows.{IsRun, Walks, Carries, number_on, row_length, left_in_row}
-use Rattle.array_desc.proofs.Algebra.{mul_add}
+use Rattle.apl_base.proofs.Integers.{mul_add}
 use Rattle.array_desc.proofs.Sums.{number_fits}
 use Rattle.array_desc.proofs.RunLemmas.{IsIndex-join, place_at-join, dot-join, size_of-parts}
 

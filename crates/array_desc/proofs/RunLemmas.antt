@@ -13,7 +13,7 @@ use Rattle.apl_base.specs.Selection.{only_index}
 use Rattle.apl_base.proofs.Sizes.{IsIndex-index_at, place_at-index_at, place_at-below}
 use Rattle.array_desc.specs.Desc.{DescView, IsDesc, dot, number}
 use Rattle.array_desc.specs.Rows.{IsRun, Joins, one_behind, one_before, goes_on}
-use Rattle.array_desc.proofs.Algebra.{mul_add, mul_assoc}
+use Rattle.apl_base.proofs.Integers.{mul_add, mul_assoc}
 use Rattle.array_desc.proofs.Indices.{index_with_size}
 use Rattle.array_desc.proofs.Sums.{dot-zeros}
 use Rattle.array_desc.proofs.Wholes.{size_of-drop_below}

@@ -1,5 +1,5 @@
 -- Transposition: axes that fall together add their strides and have the least of their lengths.
-use Rattle.std.proofs.Common.{◌≡◌, ◌==◌, ℕ, zero, suc, ◌+◌, ◌-◌, ◌*◌, ◌^◌, ◌<◌, ◌≤◌, Bool, true, false, if◌then◌else◌, ℤ, pos, ◌+ℤ◌, ◌*ℤ◌, List, [], ◌∷◌, ◌++◌, Option, Some, None, length, map, get_or, drop, drop-cons, append_assoc, add-one, refl, ap, sym, subst, ◌∙◌, arith, inl, inr}
+use Rattle.std.proofs.Common.{◌≡◌, ◌==◌, ℕ, zero, suc, ◌+◌, ◌-◌, ◌<◌, ◌≤◌, Bool, true, false, if◌then◌else◌, ℤ, pos, ◌+ℤ◌, ◌*ℤ◌, List, [], ◌∷◌, ◌++◌, Option, Some, None, length, map, get_or, drop, drop-cons, append_assoc, add-one, refl, ap, sym, subst, ◌∙◌, arith, inl, inr}
 use Rattle.std.specs.Int.{int_wrap}
 use Rattle.std.proofs.lemmas.Int.{int_wrap-add_left}
 use mir.Syntax.{w128}
@@ -7,20 +7,18 @@ use Rattle.std.specs.Prelude.{slice_index}
 use Rattle.std.specs.List.{AllByRecursion}
 use Rattle.std.proofs.lemmas.Int.{ints}
 use Rattle.std.proofs.lemmas.Bool.Decides.{nat_tests}
-use Rattle.std.proofs.Math.Nat.{mul-le-mul}
-use Rattle.apl_base.specs.Array.{IsShape, IsIndex, size_of}
+use Rattle.apl_base.specs.Array.{IsShape, IsIndex}
 use Rattle.apl_base.specs.Selection.{AreAxes, axes_rank, least, lengths_at, upward, transpose_shape, transpose_index}
 use Rattle.array_desc.specs.Desc.{DescView, IsDesc, dot}
 use Rattle.array_desc.specs.Steps.{stride_at, lesser, least_with}
-use Rattle.array_desc.proofs.Algebra.{add_mul}
-use Rattle.array_desc.proofs.Indices.{length_of_index}
+use Rattle.apl_base.proofs.Integers.{add_mul}
+use Rattle.apl_base.proofs.Sizes.{IsIndex-length}
+use Rattle.apl_base.proofs.Booleans.{eqb-same, eqb-other, eqb-passed}
+use Rattle.apl_base.proofs.Transposes.{below_next, few_axes}
+use Rattle.apl_base.proofs.Upward.{length-map-upward}
 use Rattle.array_desc.proofs.Sums.{Meets, Near, meets-near}
 
 -- ---- lists over the axes of the result
-
-pub length-over : {A : Type 0} (f : ℕ → A) (a k : ℕ) → length (map f (upward a k)) ≡ k
-length-over f a zero = refl
-length-over f a (suc k) = ap suc (length-over f (suc a) k)
 
 index_over : (f : ℕ → ℕ) (a k : ℕ) (is : List ℕ) (r : ℕ) → IsIndex (map f (upward a k)) is → r < k → slice_index is r < f (a + r)
 index_over f a zero is r q p = absurd (omega (arith, p))
@@ -31,18 +29,6 @@ index_over f a (suc k) (i ∷ is) (suc r) q p =
     let e : suc a + r ≡ a + suc r = omega arith in
     subst (λ n. slice_index is r < f n) e (index_over f (suc a) k is r q.1 (omega (arith, p)))
 
-is_same : (x y : ℕ) → x ≡ y → (x == y) ≡ true
-is_same x y e = grind (arith, nat_tests)
-
-is_other : (x a m : ℕ) → x ≡ a + suc m → (x == a) ≡ false
-is_other x a m e = grind (arith, nat_tests)
-
-is_passed : (x a : ℕ) → x < a → (x == a) ≡ false
-is_passed x a p = grind (arith, nat_tests)
-
-below_next : (x a : ℕ) → x < a → x < suc a
-below_next x a p = omega arith
-
 -- ---- the sum over the axes of the result
 
 -- an axis below adds nothing
@@ -50,7 +36,7 @@ dot_passed : (f : ℕ → ℤ) (x : ℕ) (s : ℤ) (a k : ℕ) (is : List ℕ) �
 dot_passed f x s a zero is p = refl
 dot_passed f x s a (suc k) [] p = refl
 dot_passed f x s a (suc k) (i ∷ is) p =
-    let e = is_passed x a p in
+    let e = eqb-passed x a p in
     let h = dot_passed f x s (suc a) k is (below_next x a p) in
     rw (e, h) refl
 
@@ -59,12 +45,12 @@ dot_more : (f : ℕ → ℤ) (x : ℕ) (s : ℤ) (a m k : ℕ) (is : List ℕ) �
 dot_more f x s a m zero is e p l = absurd (omega (arith, p))
 dot_more f x s a m (suc k) [] e p l = absurd (omega (arith, l))
 dot_more f x s a zero (suc k) (i ∷ is) e p l =
-    let b = is_same x a (omega (arith, e)) in
+    let b = eqb-same x a (omega (arith, e)) in
     let h = dot_passed f x s (suc a) k is (omega (arith, e)) in
     let d = add_mul s (f a) (pos i) in
     rw (b, h) (omega (arith, ints, d))
 dot_more f x s a (suc m) (suc k) (i ∷ is) e p l =
-    let b = is_other x a m e in
+    let b = eqb-other x a m e in
     let h = dot_more f x s (suc a) m k is (omega (arith, e)) (omega (arith, p)) (omega (arith, l)) in
     rw b (omega (arith, ints, h))
 
@@ -96,7 +82,7 @@ record Inside (place : ℕ → ℕ) (k : ℕ) (axes ns : List ℕ) : Type 0 wher
 inside_head : (place : ℕ → ℕ) (k a n : ℕ) (axes ns : List ℕ) → a < k → Inside place k (a ∷ axes) (n ∷ ns) → place a < n
 inside_head place k a n axes ns p h =
     let P : List ℕ → Type 0 = λ ms. AllByRecursion (λ m. place a < m) ms in
-    let e = ap (λ b. if b then n ∷ lengths_at a axes ns else lengths_at a axes ns) (is_same a a refl) in
+    let e = ap (λ b. if b then n ∷ lengths_at a axes ns else lengths_at a axes ns) (eqb-same a a refl) in
     (subst P e (h.each a p)).0
 
 drop_head : (place n : ℕ) (t : Bool) (ms : List ℕ) → AllByRecursion (λ m. place < m) (if t then n ∷ ms else ms) → AllByRecursion (λ m. place < m) ms
@@ -125,144 +111,6 @@ transposed_index axes ns is x l q =
     index_from_inside (axes_rank axes) axes ns is x.below l
     (record { each = λ r p. below_least (slice_index is r) (lengths_at r axes ns) (place_below axes ns is r q p) })
 
--- ---- the lengths make a shape
-
-size_passed : (f : ℕ → List ℕ) (x n a k : ℕ) → x < a → size_of (map (λ r. size_of (if x == r then n ∷ f r else f r)) (upward a k)) ≡ size_of (map (λ r. size_of (f r)) (upward a k))
-size_passed f x n a zero p = refl
-size_passed f x n a (suc k) p =
-    let e = is_passed x a p in
-    let h = size_passed f x n (suc a) k (below_next x a p) in
-    rw (e, h) refl
-
-size_more : (f : ℕ → List ℕ) (x n a m k : ℕ) → x ≡ a + m → m < k → size_of (map (λ r. size_of (if x == r then n ∷ f r else f r)) (upward a k)) ≡ n * size_of (map (λ r. size_of (f r)) (upward a k))
-size_more f x n a m zero e p = absurd (omega (arith, p))
-size_more f x n a zero (suc k) e p =
-    let b = is_same x a (omega (arith, e)) in
-    let h = size_passed f x n (suc a) k (omega (arith, e)) in
-    rw (b, h) (omega arith)
-size_more f x n a (suc m) (suc k) e p =
-    let b = is_other x a m e in
-    let h = size_more f x n (suc a) m k (omega (arith, e)) (omega (arith, p)) in
-    let g = ap (λ v. size_of (f a) * v) h in
-    rw b (omega (arith, g))
-
-size_none : (a k : ℕ) → size_of (map (λ r. 1) (upward a k)) ≡ 1
-size_none a zero = refl
-size_none a (suc k) = omega (arith, size_none (suc a) k)
-
--- the product of the lengths, axis by axis of the result
-size_grouped : (k : ℕ) (axes ns : List ℕ) → AllByRecursion (λ a. a < k) axes → length axes ≡ length ns → size_of (map (λ r. size_of (lengths_at r axes ns)) (upward 0 k)) ≡ size_of ns
-size_grouped k [] [] h l = size_none 0 k
-size_grouped k (a ∷ axes) (n ∷ ns) h l =
-    size_more (λ r. lengths_at r axes ns) a n 0 a k (omega arith) h.0
-    ∙ ap (λ v. n * v) (size_grouped k axes ns h.1 (omega (arith, l)))
-size_grouped k [] (n ∷ ns) h l = absurd (omega (arith, l))
-size_grouped k (a ∷ axes) [] h l = absurd (omega (arith, l))
-
-least_below_size : (ns : List ℕ) → least ns ≤ size_of ns
-least_below_size [] = omega arith
-least_below_size (n ∷ []) = omega arith
-least_below_size (zero ∷ m ∷ ms) = omega arith
-least_below_size (suc n ∷ m ∷ ms) = omega (arith, least_below_size (m ∷ ms))
-
-size_over_le : (f g : ℕ → ℕ) (a k : ℕ) → ((r : ℕ) → f r ≤ g r) → size_of (map f (upward a k)) ≤ size_of (map g (upward a k))
-size_over_le f g a zero h = omega arith
-size_over_le f g a (suc k) h = mul-le-mul (h a) (size_over_le f g (suc a) k h)
-
--- how many axes of the argument become the axes of the result, all together
-total : (ℕ → ℕ) → ℕ → ℕ → ℕ
-total f a zero = 0
-total f a (suc k) = f a + total f (suc a) k
-
-total_passed : (f : ℕ → List ℕ) (x n a k : ℕ) → x < a → total (λ r. length (if x == r then n ∷ f r else f r)) a k ≡ total (λ r. length (f r)) a k
-unfolding total
-total_passed f x n a zero p = refl
-total_passed f x n a (suc k) p =
-    let e = is_passed x a p in
-    let h = total_passed f x n (suc a) k (below_next x a p) in
-    rw (e, h) refl
-
-total_more : (f : ℕ → List ℕ) (x n a m k : ℕ) → x ≡ a + m → m < k → total (λ r. length (if x == r then n ∷ f r else f r)) a k ≡ suc (total (λ r. length (f r)) a k)
-unfolding total
-total_more f x n a m zero e p = absurd (omega (arith, p))
-total_more f x n a zero (suc k) e p =
-    let b = is_same x a (omega (arith, e)) in
-    let h = total_passed f x n (suc a) k (omega (arith, e)) in
-    rw (b, h) (omega arith)
-total_more f x n a (suc m) (suc k) e p =
-    let b = is_other x a m e in
-    let h = total_more f x n (suc a) m k (omega (arith, e)) (omega (arith, p)) in
-    rw b (omega (arith, h))
-
-total_none : (a k : ℕ) → total (λ r. 0) a k ≡ 0
-unfolding total
-total_none a zero = refl
-total_none a (suc k) = omega (arith, total_none (suc a) k)
-
-total_is : (k : ℕ) (axes ns : List ℕ) → AllByRecursion (λ a. a < k) axes → length axes ≡ length ns → total (λ r. length (lengths_at r axes ns)) 0 k ≡ length ns
-total_is k [] [] h l = total_none 0 k
-total_is k (a ∷ axes) (n ∷ ns) h l =
-    total_more (λ r. lengths_at r axes ns) a n 0 a k (omega arith) h.0
-    ∙ ap suc (total_is k axes ns h.1 (omega (arith, l)))
-total_is k [] (n ∷ ns) h l = absurd (omega (arith, l))
-total_is k (a ∷ axes) [] h l = absurd (omega (arith, l))
-
-total_at_least : (f : ℕ → ℕ) (a k : ℕ) → ((r : ℕ) → a ≤ r → r < a + k → 0 < f r) → k ≤ total f a k
-unfolding total
-total_at_least f a zero h = omega arith
-total_at_least f a (suc k) h =
-    let r = total_at_least f (suc a) k (λ r p q. h r (omega (arith, p)) (omega (arith, q))) in
-    omega (arith, h a (omega arith) (omega arith), r)
-
--- an axis of the result that is among the numbers has a length
-longer : (r n : ℕ) (t : Bool) (ms : List ℕ) → 0 < length ms → 0 < length (if t then n ∷ ms else ms)
-longer r n true ms h = omega arith
-longer r n false ms h = h
-
-has_length : (r : ℕ) (axes ns : List ℕ) (j : ℕ) → length axes ≡ length ns → j < length axes → get_or axes j r ≡ r → 0 < length (lengths_at r axes ns)
-has_length r [] ns j l p e = absurd (omega (arith, p))
-has_length r (a ∷ axes) [] j l p e = absurd (omega (arith, l))
-has_length r (a ∷ axes) (n ∷ ns) zero l p e = let b = is_same a r e in rw b (omega arith)
-has_length r (a ∷ axes) (n ∷ ns) (suc j) l p e =
-    longer r n (a == r) (lengths_at r axes ns) (has_length r axes ns j (omega (arith, l)) (omega (arith, p)) e)
-
-few_axes : (axes ns : List ℕ) → AreAxes (axes_rank axes) axes → length axes ≡ length ns → axes_rank axes ≤ length ns
-few_axes axes ns x l =
-    let k = axes_rank axes in
-    let t = total_at_least (λ r. length (lengths_at r axes ns)) 0 k (λ r p q. let m = x.each r (omega (arith, q)) in has_length r axes ns m.0 l m.1 m.2) in
-    omega (arith, total_is k axes ns x.below l, t)
-
-least_within : (b : ℕ) (ns : List ℕ) → AllByRecursion (λ n. n ≤ b) ns → least ns ≤ b
-least_within b [] h = omega arith
-least_within b (n ∷ []) h = h.0
-least_within b (n ∷ m ∷ ms) h = omega (arith, h.0)
-
-put_on : (b n : ℕ) (t : Bool) (ms : List ℕ) → n ≤ b → AllByRecursion (λ m. m ≤ b) ms → AllByRecursion (λ m. m ≤ b) (if t then n ∷ ms else ms)
-put_on b n true ms p h = (p, h)
-put_on b n false ms p h = h
-
-lengths_within : (b r : ℕ) (axes ns : List ℕ) → AllByRecursion (λ n. n ≤ b) ns → AllByRecursion (λ n. n ≤ b) (lengths_at r axes ns)
-lengths_within b r [] ns h = tt
-lengths_within b r (a ∷ axes) [] h = tt
-lengths_within b r (a ∷ axes) (n ∷ ns) h = put_on b n (a == r) (lengths_at r axes ns) h.0 (lengths_within b r axes ns h.1)
-
-all_over : (b : ℕ) (f : ℕ → ℕ) (a k : ℕ) → ((r : ℕ) → f r ≤ b) → AllByRecursion (λ n. n ≤ b) (map f (upward a k))
-all_over b f a zero h = tt
-all_over b f a (suc k) h = (h a, all_over b f (suc a) k h)
-
-pub transposed_shape : (axes ns : List ℕ) → AreAxes (axes_rank axes) axes → length axes ≡ length ns → IsShape ns → IsShape (transpose_shape axes ns)
-transposed_shape axes ns x l s =
-    let k = axes_rank axes in
-    let f : ℕ → ℕ = λ r. least (lengths_at r axes ns) in
-    let g : ℕ → ℕ = λ r. size_of (lengths_at r axes ns) in
-    let a = size_over_le f g 0 k (λ r. least_below_size (lengths_at r axes ns)) in
-    let b = size_grouped k axes ns x.below l in
-    record {
-      rank = omega (arith, length-over f 0 k, few_axes axes ns x l, s.rank);
-      each = all_over (2 ^ 40) f 0 k (λ r. least_within (2 ^ 40) (lengths_at r axes ns) (lengths_within (2 ^ 40) r axes ns s.each));
-      product = omega (arith, a, b, s.product);
-    }
-
 pub few_result_axes : (axes ns : List ℕ) → AreAxes (axes_rank axes) axes → length axes ≡ length ns → IsShape ns → axes_rank axes ≤ 8
 few_result_axes axes ns x l s = omega (arith, few_axes axes ns x l, s.rank)
 
@@ -270,10 +118,10 @@ pub transpose-meets : (old : DescView) (axes : List ℕ) → IsDesc old → leng
 transpose-meets old axes d l x =
     let k = axes_rank axes in
     record {
-      axes = length-over (λ r. stride_at r axes old.strides) 0 k ∙ sym (length-over (λ r. least (lengths_at r axes old.shape)) 0 k);
+      axes = length-map-upward (λ r. stride_at r axes old.strides) 0 k ∙ sym (length-map-upward (λ r. least (lengths_at r axes old.shape)) 0 k);
       index = λ i q. transposed_index axes old.shape i x l q;
       same = λ i q.
-          let e : length i ≡ k = length_of_index (transpose_shape axes old.shape) i q ∙ length-over (λ r. least (lengths_at r axes old.shape)) 0 k in
+          let e : length i ≡ k = IsIndex-length (transpose_shape axes old.shape) i q ∙ length-map-upward (λ r. least (lengths_at r axes old.shape)) 0 k in
           ap (λ z. old.base +ℤ z) (dot-transposed k axes old.strides i x.below (l ∙ sym d.strides) e);
     }
 
@@ -308,7 +156,7 @@ stride_taken axes ss r j before after stride all p q e f g h =
     let a = drop-cons axes j 0 p in
     let b = drop-cons ss j (pos 0) q in
     let s = get_or ss j (pos 0) in
-    let c = is_same (get_or axes j 0) r e in
+    let c = eqb-same (get_or axes j 0) r e in
     let rest = stride_at r (drop (suc j) axes) (drop (suc j) ss) in
     rw (g, f, add-one j)
     (int_wrap-add_left w128 (before +ℤ s) rest
@@ -332,7 +180,7 @@ pub length_taken : (axes ns : List ℕ) (r j : ℕ) (before after : Option ℕ) 
 length_taken axes ns r j before after n all p q e f g h =
     let a = drop-cons axes j 0 p in
     let b = drop-cons ns j 0 q in
-    let c = is_same (get_or axes j 0) r e in
+    let c = eqb-same (get_or axes j 0) r e in
     rw (g, f, add-one j)
     (least_push before (get_or ns j 0) (lengths_at r (drop (suc j) axes) (drop (suc j) ns))
     ∙ (rw (a, b, c) at h))

@@ -11,7 +11,7 @@ use mir.Val.{to_z, of_z}
 use Rattle.apl_base.specs.Array.{size_of}
 use Rattle.array_desc.specs.Desc.{dot}
 use Rattle.array_desc.specs.Steps.{paired, row_strides}
-use Rattle.array_desc.proofs.Algebra.{mul_assoc}
+use Rattle.apl_base.proofs.Integers.{mul_assoc}
 
 regroup : (sum p rest : ℤ) → (sum +ℤ p) +ℤ rest ≡ (sum +ℤ rest) +ℤ p
 regroup sum p rest = omega (arith, ints)

@@ -9,7 +9,8 @@ use Rattle.array_desc.specs.Desc.{DescView, IsDesc, IsWhole, ShortAxesRest, dot}
 use Rattle.array_desc.specs.Steps.{paired, stride_kept, row_strides, whole_strides}
 use Rattle.array_desc.proofs.Canon.{SameNumbers, first_same, strides_same}
 use Rattle.std.proofs.Math.ListN.{drop_of_length-le}
-use Rattle.array_desc.proofs.Indices.{positive, size_with_index}
+use Rattle.apl_base.proofs.Sizes.{IsIndex-positive}
+use Rattle.array_desc.proofs.Indices.{positive}
 use Rattle.array_desc.proofs.Kept.{dot-kept, short-kept, length-kept}
 use Rattle.array_desc.proofs.Places.{dot-row_strides, length-row_strides}
 
@@ -121,7 +122,7 @@ pub empty_is_whole : (d : DescView) → IsDesc d → size_of d.shape ≡ 0 → I
 empty_is_whole d w z = record {
   lawful = w;
   shape = refl;
-  places = λ i q. absurd (omega (arith, size_with_index d.shape i q));
+  places = λ i q. absurd (omega (arith, IsIndex-positive d.shape i q));
 }
 
 -- a test against 0 that is true

@@ -1,3 +1,4 @@
+//! Descriptors, made whole, as a line or of one number, and what is read of them.
 ghost use Rattle.std.specs.Prelude.{◌≡◌, ℕ, ◌+◌, ◌^◌, ◌<◌, ◌≤◌, ◌↔◌, IsTrue, pos, ◌+ℤ◌, ◌*ℤ◌, List, [], ◌∷◌, ◌++◌, length, slice_index};
 ghost use Rattle.apl_base.specs.Array.{IsShape, IsIndex, size_of, place_at};
 ghost use Rattle.apl_base.specs.Number.{IsNumber};
@@ -39,7 +40,8 @@ impl Desc {
     /// The places of a shape's elements in row-major order, counted from 0. It takes no memory.
     pub fn whole(shape: &Shape) -> Desc
         ensures shape { result.shape ≡ shape.now }
-        ensures places { (i : List ℕ) → IsIndex shape.now i → number_of result i ≡ pos (place_at shape.now i) }
+        ensures places { (i : List ℕ) → IsIndex shape.now i
+            → number_of result i ≡ pos (place_at shape.now i) }
         ensures lawful { IsDesc result }
     {
         Parts {

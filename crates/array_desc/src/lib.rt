@@ -10,8 +10,6 @@ mod rows;
 mod runs;
 mod selections;
 mod steps;
-#[cfg(test)]
-mod tests;
 
 pub use desc::Desc;
 pub use laws::{determined, worked_numbers};

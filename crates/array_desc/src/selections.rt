@@ -1,3 +1,4 @@
+//! The selections.
 ghost use Rattle.std.specs.Prelude.{◌≡◌, ℕ, ◌+◌, ◌<◌, ◌≤◌, ◌++◌, List, length, slice_index};
 ghost use Rattle.apl_base.specs.Array.{IsShape, size_of};
 ghost use Rattle.apl_base.specs.Selection.{AreAxes, axes_rank, transpose_shape, transpose_index, CountsFit, take_shape, take_index, drop_shape, drop_index, reverse_index, at_shape, at_index, run_shape, run_index, only_index, outer_left_index, outer_right_index};

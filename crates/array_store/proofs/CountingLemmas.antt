@@ -1,8 +1,9 @@
 -- Lemmas on what was counted, for this crate and its callers.
-use Rattle.std.proofs.Common.{◌≡◌, ℕ, ◌+◌, ◌≤◌, refl, sym, ap, ◌∙◌, subst, arith}
-use Rattle.array_store.specs.Stores.{StoreView, AreCounts, counted}
+use Rattle.std.proofs.Common.{◌≡◌, ℕ, ◌+◌, ◌≤◌, length, refl, sym, ap, ◌∙◌, subst, arith}
+use Rattle.array_store.specs.declared.ids.Counts.{Counts}
+use Rattle.array_store.specs.Stores.{OwnerView, StoreView, AreCounts, Makes, counted}
 use Rattle.array_store.specs.Follows.{Follows, none}
-use Rattle.array_store.specs.Counting.{OnlyCounted, RoseBy, OnlyFetched, OnlyComputed, Computed, ComputedJust, after_fetches, after_applications}
+use Rattle.array_store.specs.Counting.{OnlyCounted, RoseBy, OnlyFetched, OnlyComputed, Computed, ComputedJust, Costs, after_fetches, after_applications}
 use Rattle.array_store.proofs.FollowsLemmas.{follows_counts}
 
 -- one count after another
@@ -120,3 +121,49 @@ ComputedJust-after_fetches s n small = record { only = refl; applied = omega ari
 
 pub ComputedJust-after_applications : (s : StoreView) (n : ℕ) → AreCounts s.counts → ComputedJust s (after_applications s n) n 0
 ComputedJust-after_applications s n small = record { only = refl; applied = refl; fetched = omega arith; made = refl }
+
+-- ---- what it cost
+
+rose_nothing : (n m : ℕ) → m ≡ n → RoseBy n m 0
+rose_nothing n m e = record { low = omega (arith, e); high = omega (arith, e) }
+
+pub costs_nothing : (a b : StoreView) → b.counts ≡ a.counts → Costs a b 0 0 0
+costs_nothing a b same =
+    record {
+      fetched_rose = rose_nothing _ _ (ap (λ (c : Counts). c.fetched) same);
+      made_rose = rose_nothing _ _ (ap (λ (c : Counts). c.made) same);
+      applied_rose = rose_nothing _ _ (ap (λ (c : Counts). c.applied) same);
+    }
+
+pub costs_then : (a b c : StoreView) (f g m n p q : ℕ) → Costs a b f m p → Costs b c g n q → Costs a c (f + g) (m + n) (p + q)
+costs_then a b c f g m n p q x y =
+    record {
+      fetched_rose = RoseBy-then _ _ _ f g x.fetched_rose y.fetched_rose;
+      made_rose = RoseBy-then _ _ _ m n x.made_rose y.made_rose;
+      applied_rose = RoseBy-then _ _ _ p q x.applied_rose y.applied_rose;
+    }
+
+pub costs_more : (a b : StoreView) (f g m n p q : ℕ) → f ≤ g → m ≤ n → p ≤ q → Costs a b f m p → Costs a b g n q
+costs_more a b f g m n p q i j k x =
+    record {
+      fetched_rose = RoseBy-more _ _ f g i x.fetched_rose;
+      made_rose = RoseBy-more _ _ m n j x.made_rose;
+      applied_rose = RoseBy-more _ _ p q k x.applied_rose;
+    }
+
+pub costs_fetched : (a b : StoreView) (cells : ℕ) → OnlyFetched a b cells → Costs a b cells 0 0
+costs_fetched a b cells x =
+    record { fetched_rose = x.fetched; made_rose = rose_nothing _ _ x.made; applied_rose = rose_nothing _ _ x.applied }
+
+pub costs_computed : (a b : StoreView) (functions cells : ℕ) → OnlyComputed a b functions cells → Costs a b cells 0 functions
+costs_computed a b functions cells x =
+    record { fetched_rose = x.fetched; made_rose = rose_nothing _ _ x.made; applied_rose = x.applied }
+
+pub costs_made : (a b : StoreView) (key : ℕ) (o : OwnerView) → AreCounts a.counts → Makes a b key o → Costs a b 0 (length o.cells) 0
+costs_made a b key o small makes =
+    let made : b.counts.made ≡ counted a.counts.made (length o.cells) = ap (λ (c : Counts). c.made) makes.counts in
+    record {
+      fetched_rose = rose_nothing _ _ (ap (λ (c : Counts). c.fetched) makes.counts);
+      made_rose = record { low = omega (arith, made, small.made); high = omega (arith, made) };
+      applied_rose = rose_nothing _ _ (ap (λ (c : Counts). c.applied) makes.counts);
+    }

@@ -5,14 +5,14 @@ use Rattle.apl_base.specs.declared.cells.Kind.{Kind}
 use Rattle.apl_base.specs.declared.cells.Interval.{Interval}
 use Rattle.array_store.specs.declared.ids.Counts.{Counts}
 use Rattle.array_store.specs.Stores.{OwnerView, OwnerData, StoreView, owner_data, no_owner, owner_at, cells_of, kind_of, interval_of, data_at}
-use Rattle.array_store.specs.Follows.{Follows, Holds, none, both}
+use Rattle.array_store.specs.Follows.{LeafCounts, Follows, Holds, none, both}
 
 -- nothing changed, and the leaves are the same
-pub follows_same : (s : StoreView) (leaves : ℕ → ℕ) → Follows s s leaves leaves
+pub follows_same : (s : StoreView) (leaves : LeafCounts) → Follows s s leaves leaves
 follows_same s leaves = record { holders = λ key. refl; kept = λ key h. refl; limit = refl }
 
 -- one change after another
-pub follows_then : (a b c : StoreView) (x y z : ℕ → ℕ) → Follows a b x y → Follows b c y z → Follows a c x z
+pub follows_then : (a b c : StoreView) (x y z : LeafCounts) → Follows a b x y → Follows b c y z → Follows a c x z
 follows_then a b c x y z p q =
     record {
       holders = λ key. omega (arith, p.holders key, q.holders key);
@@ -21,7 +21,7 @@ follows_then a b c x y z p q =
     }
 
 -- other leaves stand beside, on the right and on the left
-pub follows_beside : (a b : StoreView) (x y others : ℕ → ℕ) → Follows a b x y → Follows a b (both x others) (both y others)
+pub follows_beside : (a b : StoreView) (x y others : LeafCounts) → Follows a b x y → Follows a b (both x others) (both y others)
 follows_beside a b x y others p =
     record {
       holders = λ key. omega (arith, p.holders key);
@@ -29,7 +29,7 @@ follows_beside a b x y others p =
       limit = p.limit;
     }
 
-pub follows_after : (a b : StoreView) (x y others : ℕ → ℕ) → Follows a b x y → Follows a b (both others x) (both others y)
+pub follows_after : (a b : StoreView) (x y others : LeafCounts) → Follows a b x y → Follows a b (both others x) (both others y)
 follows_after a b x y others p =
     record {
       holders = λ key. omega (arith, p.holders key);
@@ -38,7 +38,7 @@ follows_after a b x y others p =
     }
 
 -- leaves that were counted in another way
-pub follows_counted : (a b : StoreView) (x y v w : ℕ → ℕ) → ((key : ℕ) → v key ≡ x key) → ((key : ℕ) → w key ≡ y key) → Follows a b x y → Follows a b v w
+pub follows_counted : (a b : StoreView) (x y v w : LeafCounts) → ((key : ℕ) → v key ≡ x key) → ((key : ℕ) → w key ≡ y key) → Follows a b x y → Follows a b v w
 follows_counted a b x y v w e f p =
     record {
       holders = λ key. omega (arith, p.holders key, e key, f key);
@@ -51,14 +51,14 @@ pub follows_counts : (s : StoreView) (c : Counts) → Follows s (record s { coun
 follows_counts s c = record { holders = λ key. refl; kept = λ key h. refl; limit = refl }
 
 -- as many holders as leaves there are afterwards
-pub holds_then : (a b : StoreView) (x y : ℕ → ℕ) → Follows a b x y → Holds a x → Holds b y
+pub holds_then : (a b : StoreView) (x y : LeafCounts) → Follows a b x y → Holds a x → Holds b y
 holds_then a b x y p h = λ key. omega (arith, p.holders key, h key)
 
-pub holds_beside : (a b : StoreView) (x y others : ℕ → ℕ) → Follows a b x y → Holds a (both x others) → Holds b (both y others)
+pub holds_beside : (a b : StoreView) (x y others : LeafCounts) → Follows a b x y → Holds a (both x others) → Holds b (both y others)
 holds_beside a b x y others p h = λ key. omega (arith, p.holders key, h key)
 
 -- an owner that a leaf beside the counted ones names keeps its cells, kind and interval
-pub leaf_kept : (a b : StoreView) (x y others : ℕ → ℕ) (key : ℕ) → Follows a b x y → Holds a (both x others) → 0 < others key → data_at b key ≡ data_at a key
+pub leaf_kept : (a b : StoreView) (x y others : LeafCounts) (key : ℕ) → Follows a b x y → Holds a (both x others) → 0 < others key → data_at b key ≡ data_at a key
 leaf_kept a b x y others key p h named = p.kept key (omega (arith, h key))
 
 -- ---- what a look-up of the data says of the words on an owner

@@ -10,6 +10,7 @@ use Rattle.apl_base.specs.declared.cells.Interval.{Interval}
 use Rattle.apl_base.specs.declared.cells.Interval.TheVariants.{Empty, Span}
 use Rattle.apl_base.specs.Number.{IsNumber, IsCell}
 use Rattle.apl_base.specs.Interval.{InInterval, IsInterval, hull, exact_interval}
+use Rattle.apl_base.proofs.Numbers.{IsNumber-int_min, IsNumber-int_max}
 use Rattle.array_store.specs.Laws.{IsLeastToGreatest}
 
 -- a cell lies in each hull with it
@@ -21,12 +22,6 @@ InInterval-hull_new (Span lo hi) c = (omega (arith, ints, clamps), omega (arith,
 pub InInterval-hull_old : (i : Interval) (c x : ℤ) → InInterval i x → InInterval (hull i c) x
 InInterval-hull_old Empty c x h = absurd h
 InInterval-hull_old (Span lo hi) c x h = (omega (arith, ints, clamps), omega (arith, ints, clamps))
-
-IsNumber-int_min : (a b : ℤ) → IsNumber a → IsNumber b → IsNumber (int_min a b)
-IsNumber-int_min a b p q = record { least = omega (arith, ints, clamps); most = omega (arith, ints, clamps) }
-
-IsNumber-int_max : (a b : ℤ) → IsNumber a → IsNumber b → IsNumber (int_max a b)
-IsNumber-int_max a b p q = record { least = omega (arith, ints, clamps); most = omega (arith, ints, clamps) }
 
 pub IsInterval-hull : (i : Interval) (c : ℤ) → IsInterval i → IsNumber c → IsInterval (hull i c)
 IsInterval-hull Empty c h n = record { least = n; order = omega (arith, ints); most = n }

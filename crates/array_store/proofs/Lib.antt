@@ -3,3 +3,4 @@ pub mod StoreLemmas
 pub mod FollowsLemmas
 pub mod CountingLemmas
 pub mod PlaceLemmas
+pub mod CameLemmas

@@ -1,12 +1,12 @@
 -- Lemmas on places that lie a step apart.
 use mir.Syntax.{w128}
-use Rattle.std.proofs.Common.{◌≡◌, ℕ, ◌+◌, ◌^◌, ◌<◌, ℤ, pos, ◌+ℤ◌, ◌*ℤ◌, List, [], ◌∷◌, ◌++◌, length, map, take, get_or, set, refl, sym, ap, ◌∙◌, add-one, subst, All, arith}
+use Rattle.std.proofs.Common.{◌≡◌, ℕ, zero, suc, ◌+◌, ◌^◌, ◌<◌, ◌≤◌, ℤ, pos, ◌+ℤ◌, ◌*ℤ◌, List, [], ◌∷◌, ◌++◌, length, map, take, get_or, set, refl, sym, ap, ◌∙◌, add-one, subst, All, arith}
 use Rattle.std.specs.Prelude.{unsigned_abs}
 use Rattle.std.specs.Int.{int_wrap}
 use Rattle.std.specs.Int.RustNames.{FitsSigned}
 use Rattle.std.proofs.lemmas.Int.{ints, int_wrap_fits, int_wrap-add_left}
 use Rattle.std.proofs.lemmas.List.{map-append}
-use Rattle.std.proofs.Math.Seq.{take-suc-set}
+use Rattle.std.proofs.Math.Seq.{take-length, take-suc, take-suc-set}
 use Rattle.std.proofs.Math.IntN.{*ℤ-zero}
 use Rattle.apl_base.specs.Selection.{upward}
 use Rattle.apl_base.proofs.Upward.{upward-append, length-map-upward, get_or-map-places}
@@ -56,3 +56,15 @@ All-cells_along P cells from step count all within = λ k d below.
     let high = within.high k less in
     let inside : unsigned_abs (from +ℤ (step *ℤ pos k)) < length cells = omega (arith, ints) in
     subst P (sym (get_or-map-places at count k d less)) (all _ (pos 0) inside)
+
+-- all cells, one after another
+along_take : (cells : List ℤ) (k : ℕ) → k ≤ length cells → cells_along cells (pos 0) (pos 1) k ≡ take k cells
+along_take cells zero fits = refl
+along_take cells (suc k) fits =
+    let here : unsigned_abs (pos 0 +ℤ (pos 1 *ℤ pos k)) ≡ k = omega (arith, ints) in
+    ap (cells_along cells (pos 0) (pos 1)) (sym (add-one k)) ∙ cells_along-next cells (pos 0) (pos 1) k
+    ∙ ap (λ n. cells_along cells (pos 0) (pos 1) k ++ get_or cells n (pos 0) ∷ []) here
+    ∙ ap (λ xs. xs ++ get_or cells k (pos 0) ∷ []) (along_take cells k (omega arith)) ∙ sym (take-suc cells k (pos 0) (omega arith))
+
+pub whole_run : (cells : List ℤ) → cells_along cells (pos 0) (pos 1) (length cells) ≡ cells
+whole_run cells = along_take cells (length cells) (omega arith) ∙ take-length cells

@@ -1,5 +1,6 @@
 -- Lemmas on what contracts see of a store, for this crate and its callers.
-use Rattle.std.proofs.Common.{◌≡◌, ◌≢◌, ℕ, suc, ◌+◌, ◌<◌, ◌≤◌, ℤ, List, [], ◌∷◌, length, get_or, set, Option, Some, None, unwrap_or, refl, sym, ap, ◌∙◌, subst, inl, inr, arith, All, sum_by}
+use Rattle.std.proofs.Common.{◌≡◌, ◌≢◌, ℕ, suc, ◌+◌, ◌<◌, ◌≤◌, ℤ, pos, List, [], ◌∷◌, length, get_or, set, Option, Some, None, unwrap_or, refl, sym, ap, ◌∙◌, subst, inl, inr, arith, All, sum_by, length-set}
+use Rattle.std.specs.Option.{option_map}
 use Rattle.std.proofs.lemmas.Bool.{cases_eq}
 use Rattle.std.proofs.lemmas.List.{get_or-set_same, get_or-set_other, get_or_past}
 use Rattle.std.proofs.lemmas.List.Sums.{sum_by-cons, sum_by-set}
@@ -8,7 +9,7 @@ use Rattle.apl_base.specs.declared.cells.Kind.{Kind}
 use Rattle.apl_base.specs.declared.cells.Interval.{Interval}
 use Rattle.apl_base.specs.Number.{IsCell}
 use Rattle.apl_base.specs.Interval.{InInterval, IsInterval, hull, exact_interval}
-use Rattle.array_store.specs.Stores.{OwnerView, StoreView, IsOwner, IsStore, AreCounts, owner_at, owner_of, holders_of, cells_of, cells_in, with_owner, without_owner, with_holders, with_cell, new_owner, no_owner}
+use Rattle.array_store.specs.Stores.{OwnerView, StoreView, IsOwner, IsStore, AreCounts, WritesOnly, owner_data, owner_at, owner_of, holders_of, cells_of, cells_in, with_owner, without_owner, with_holders, with_cell, new_owner, no_owner}
 use Rattle.array_store.specs.Counting.{OnlyCounted}
 use Rattle.array_store.proofs.IntervalLemmas.{All-exact_interval, IsInterval-exact, IsInterval-hull, InInterval-hull_new, InInterval-hull_old, IsNumber-from_cell}
 
@@ -166,3 +167,31 @@ owner_at-with_holders s key n o found =
 pub owner_at-with_cell : (s : StoreView) (key place : ℕ) (c : ℤ) (o : OwnerView) → owner_at s key ≡ Some o → owner_at (with_cell s key place c) key ≡ Some (record o { cells = set o.cells place c; interval = hull o.interval c })
 owner_at-with_cell s key place c o found =
     owner_at-with_owner s key o _ found ∙ ap (λ (p : OwnerView). Some (record p { cells = set p.cells place c; interval = hull p.interval c })) (owner_of-found s key o found)
+
+-- a key without holders has no owner
+pub nobody_holds_none : (s : StoreView) (key : ℕ) → IsStore s → holders_of s key ≡ 0 → owner_at s key ≡ None
+nobody_holds_none s key store free = none_or (owner_at s key) (λ o found. store.owners key o found) free
+  where
+    none_or : (found : Option OwnerView) → ((o : OwnerView) → found ≡ Some o → IsOwner o) → (unwrap_or found no_owner).holders ≡ 0 → found ≡ None
+    none_or None lawful free = refl
+    none_or (Some o) lawful free = absurd (omega (arith, (lawful o refl).held, free))
+
+-- what is as before after a cell was written
+pub written_is_only : (s : StoreView) (key place : ℕ) (c : ℤ) → 0 < holders_of s key → place < length (cells_of s key) → WritesOnly s (with_cell s key place c) key place c
+written_is_only s key place c held below =
+    let now = owner_of-found (with_cell s key place c) key _ (owner_at-with_cell s key place c _ (owner_found s key held)) in
+    let cells : cells_of (with_cell s key place c) key ≡ set (cells_of s key) place c = ap (λ (o : OwnerView). o.cells) now in
+    record {
+      written = ap (λ (xs : List ℤ). get_or xs place (pos 0)) cells ∙ get_or-set_same (cells_of s key) place c (pos 0) below;
+      cells = λ other differs. ap (λ (xs : List ℤ). get_or xs other (pos 0)) cells ∙ get_or-set_other (cells_of s key) place other c (pos 0) differs;
+      count = ap length cells ∙ length-set (cells_of s key) place c;
+      kind = ap (λ (o : OwnerView). o.kind) now;
+      holders = λ other. elim (cases_eq other key) [
+        | inl same ↦ ap (holders_of (with_cell s key place c)) same ∙ ap (λ (o : OwnerView). o.holders) now ∙ sym (ap (holders_of s) same)
+        | inr differs ↦ ap (λ (o : Option OwnerView). (unwrap_or o no_owner).holders) (owner_at-with_owner_other s key other _ differs)
+      ];
+      others = λ other differs. ap (option_map owner_data) (owner_at-with_owner_other s key other _ differs);
+      live = refl;
+      limit = refl;
+      counts = refl;
+    }

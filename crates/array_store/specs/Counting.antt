@@ -45,6 +45,12 @@ pub record ComputedJust (old new : StoreView) (functions cells : ℕ) : Type 0 w
   pub fetched : new.counts.fetched ≡ counted old.counts.fetched cells
   pub made : new.counts.made ≡ old.counts.made
 
+-- the three counts rose by at most so much, whatever else was done
+pub record Costs (old new : StoreView) (fetched made applied : ℕ) : Type 0 where
+  pub fetched_rose : RoseBy old.counts.fetched new.counts.fetched fetched
+  pub made_rose : RoseBy old.counts.made new.counts.made made
+  pub applied_rose : RoseBy old.counts.applied new.counts.applied applied
+
 -- there is no room for so many cells more, as these two numbers say, and nothing was done
 pub record IsFull (old new : StoreView) (size held wanted : ℕ) : Type 0 where
   pub live : held ≡ old.live

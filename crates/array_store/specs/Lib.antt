@@ -3,3 +3,5 @@ pub mod Follows
 pub mod Laws
 pub mod Counting
 pub mod Places
+pub mod Came
+pub mod Examples

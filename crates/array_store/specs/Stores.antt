@@ -128,6 +128,18 @@ with_holders s key n = with_owner s key (record (owner_of s key) { holders = n }
 abbrev pub with_cell : StoreView → ℕ → ℕ → ℤ → StoreView
 with_cell s key place c = with_owner s key (record (owner_of s key) { cells = slice_set (cells_of s key) place c; interval = hull (interval_of s key) c })
 
+-- one cell of an owner was written; its other cells, its kind and its holders stay, and so does all else
+pub record WritesOnly (old new : StoreView) (key place : ℕ) (c : ℤ) : Type 0 where
+  pub written : cell_of new key place ≡ c
+  pub cells : (other : ℕ) → other ≢ place → cell_of new key other ≡ cell_of old key other
+  pub count : length (cells_of new key) ≡ length (cells_of old key)
+  pub kind : kind_of new key ≡ kind_of old key
+  pub holders : (other : ℕ) → holders_of new other ≡ holders_of old other
+  pub others : (other : ℕ) → other ≢ key → data_at new other ≡ data_at old other
+  pub live : new.live ≡ old.live
+  pub limit : new.limit ≡ old.limit
+  pub counts : new.counts ≡ old.counts
+
 -- an owner as it is made: one holder, and from the least to the greatest cell
 abbrev pub new_owner : List ℤ → Kind → OwnerView
 new_owner cells kind = record { cells = cells; kind = kind; holders = 1; interval = exact_interval cells }

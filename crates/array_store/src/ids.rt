@@ -51,6 +51,7 @@ pub enum BeginFault {
 impl From<NoMemory> for BeginFault {
     ghost from_gives = { λ _ fault. fault ≡ begin_fault.NoMemory };
 
+    // Want of memory is told as that.
     fn from(_fault: NoMemory) -> BeginFault {
         BeginFault::NoMemory
     }

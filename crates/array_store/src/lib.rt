@@ -11,5 +11,8 @@ mod storage;
 mod tests;
 
 pub use ids::{BeginFault, Counts, OwnerId};
-pub use laws::{follows_laws, interval_laws, look_up_laws, worked_rows};
+pub use laws::{
+    came_laws, costs_laws, follows_examples, follows_laws, interval_laws, look_up_laws, run_laws,
+    worked_rows,
+};
 pub use storage::Store;

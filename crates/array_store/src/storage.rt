@@ -3,6 +3,7 @@ ghost use Rattle.apl_base.specs.Number.{IsCell};
 ghost use Rattle.apl_base.specs.Interval.{InInterval};
 ghost use Rattle.array_store.specs.Stores.{IsOwner, IsStore, Makes, owner_of, HasRoom, holders_of, cells_of, kind_of, interval_of, cell_of, empty_store, new_owner, with_holders, with_cell, without_owner};
 ghost use Rattle.array_store.specs.Places.{PlacesWithin, cells_along};
+ghost use Rattle.array_store.specs.Came.{Renews};
 ghost use Rattle.array_store.specs.Counting.{OnlyFetched, OnlyComputed, after_fetches, after_applications};
 ghost use Rattle.array_store.specs.Follows.{Follows, none, one_of};
 
@@ -108,7 +109,8 @@ impl Store {
     pub fn make(&mut self, cells: Vec<Cell>, kind: Kind) -> Result<OwnerId, NoMemory>
         requires room { HasRoom self.old (vec_len cells) }
         requires lawful { All (IsCell kind) cells.items }
-        ensures made { IfOk result (λ key. Makes self.old self.new key (new_owner cells.items kind)) }
+        ensures made { IfOk result (λ key.
+            Makes self.old self.new key (new_owner cells.items kind)) }
         ensures follows { IfOk result (λ key. Follows self.old self.new none (one_of key)) }
         ensures unchanged { OnErr result (self.new ≡ self.old) }
         ensures store { IsStore self.new }
@@ -180,8 +182,10 @@ impl Store {
     /// counts a fetch for each.
     pub fn fetch_into(&mut self, owner: OwnerId, from: Cell, step: Cell, into: &mut [Cell])
         requires live { 0 < holders_of self.old owner }
-        requires places { PlacesWithin (length (cells_of self.old owner)) from step (length into.old) }
-        ensures cells { into.new ≡ cells_along (cells_of self.old owner) from step (length into.old) }
+        requires places { PlacesWithin (length (cells_of self.old owner)) from step
+            (length into.old) }
+        ensures cells { into.new
+            ≡ cells_along (cells_of self.old owner) from step (length into.old) }
         ensures counted { self.new ≡ after_fetches self.old (length into.old) }
         ensures only { OnlyFetched self.old self.new (length into.old) }
         ensures lawful { All (IsCell (kind_of self.old owner)) into.new }
@@ -225,6 +229,8 @@ impl Store {
             → self.new ≡ with_holders self.old owner (holders_of self.old owner - 1) }
         ensures freed { holders_of self.old owner ≡ 1 → self.new ≡ without_owner self.old owner }
         ensures follows { Follows self.old self.new (one_of owner) none }
+        ensures renews { Renews self.old self.new [] }
+        ensures counts { self.new.counts ≡ self.old.counts }
         ensures store { IsStore self.new }
     {
         if self.holders(owner) == 1 {

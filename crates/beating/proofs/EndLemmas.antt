@@ -4,7 +4,7 @@ use Rattle.std.specs.Prelude.{insert, remove}
 use Rattle.apl_base.specs.Array.{IsIndex}
 use Rattle.apl_base.specs.Selection.{Position, whole, one, subscript_shape, subscript_index, at_shape, at_index}
 use Rattle.array_desc.specs.Desc.{DescView, IsDesc, Selects}
-use Rattle.array_desc.proofs.Indices.{length_of_index}
+use Rattle.apl_base.proofs.Sizes.{IsIndex-length}
 use Rattle.beating.specs.declared.selections.Item.{Item}
 use Rattle.beating.specs.declared.selections.Item.TheVariants as item
 use Rattle.beating.specs.Passes.{end_of, OneLeft}
@@ -110,7 +110,7 @@ ended_none old items k e o = record {
       let many = length-one_left items old.shape o in
       let l = onward-shape k items old.shape (sym e) many in
       selects_same old old old.shape (subscript_shape (onward k items) old.shape) (λ i. i) (subscript_index (onward k items)) (selects_itself old) (sym l) (λ i q.
-      let c = length_of_index (subscript_shape (onward k items) old.shape) i q in
+      let c = IsIndex-length (subscript_shape (onward k items) old.shape) i q in
       sym (onward-index k items i (sym e) (omega (arith, many, ap length l, c))));
 }
 

@@ -1,6 +1,6 @@
 -- What a segment of one leaf of numbers means, and what a function of one or two of them means.
 use Rattle.std.proofs.Common.{◌≡◌, ℕ, zero, suc, ◌+◌, ◌<◌, ◌≤◌, Bool, true, false, IsTrue, ◌⊎◌, inl, inr, ℤ, negsuc, neg_ℤ, ◌*ℤ◌, List, [], ◌∷◌, map, Option, Some, None, if◌then◌else◌, refl, sym, ap, subst, ◌∙◌, arith}
-use Rattle.std.specs.Option.{option_map, option_and_then}
+use Rattle.std.specs.Option.{option_map}
 use Rattle.std.specs.List.{zip}
 use Rattle.std.proofs.lemmas.Int.{ints}
 use Rattle.apl_base.specs.declared.cells.Elem.{Elem}
@@ -15,9 +15,11 @@ use Rattle.apl_base.specs.declared.rows.Dya.{Dya}
 use Rattle.apl_base.specs.Array.{IsIndex, size_of, index_at}
 use Rattle.apl_base.specs.Number.{IsNumber, is_number}
 use Rattle.apl_base.specs.Interval.{InInterval}
+use Rattle.apl_base.specs.Elements.{all_defined}
 use Rattle.apl_base.specs.Scalar.{in_range, scalar1, scalar2, number as element}
 use Rattle.apl_base.specs.Selection.{upward}
 use Rattle.apl_base.proofs.Sizes.{IsIndex-index_at}
+use Rattle.apl_base.proofs.Elements.{all_defined-cons}
 use Rattle.array_desc.specs.Desc.{DescView, IsDesc, number}
 use Rattle.array_store.specs.Stores.{StoreView}
 use Rattle.value_range.specs.declared.sides.Side.{Side}
@@ -31,7 +33,7 @@ use Rattle.drag_along.specs.declared.nodes.Node.{Node}
 use Rattle.drag_along.specs.declared.nodes.Node.TheVariants.{Operand, One, Two}
 use Rattle.drag_along.specs.Nodes.{AllLeaves, kind_of_nodes}
 use Rattle.drag_along.specs.Segments.{SegmentView, IsSegment, HasShape, side_of, leaf_segment}
-use Rattle.drag_along.specs.Meaning.{Meaning, Means, pending, all_defined, numbers_or, applied1, applied2, combined1, combined2, leaf_array, after_nodes, newest, entry}
+use Rattle.drag_along.specs.Meaning.{Meaning, Means, pending, numbers_or, applied1, applied2, combined1, combined2, leaf_array, after_nodes, newest, entry}
 use Rattle.drag_along.specs.Lawful.{LeafWithin, IsLawful}
 use Rattle.drag_along.specs.Views.{only_numbers, only_leaf}
 use Rattle.drag_along.proofs.OneLeafLemmas.{one_leaf_segment, one_leaf_lawful}
@@ -84,20 +86,16 @@ cells_back : (xs : List ℤ) → map (λ e. e.cell) (map element xs) ≡ xs
 cells_back [] = refl
 cells_back (x ∷ xs) = ap (λ (ys : List ℤ). x ∷ ys) (cells_back xs)
 
-next_defined : {X : Type 0} (o : Option X) (v : X) (rest : Option (List X)) (vs : List X) → o ≡ Some v → rest ≡ Some vs → option_and_then (λ v. option_map (λ vs. v ∷ vs) rest) o ≡ Some (v ∷ vs)
-next_defined o v rest vs e f =
-    ap (λ o. option_and_then (λ v. option_map (λ vs. v ∷ vs) rest) o) e ∙ ap (λ r. option_map (λ vs. v ∷ vs) r) f
-
 all1 : (f : Elem → Option Elem) (g k : ℕ → ℤ) (from n : ℕ) → ((p : ℕ) → from ≤ p → p < from + n → f (element (g p)) ≡ Some (element (k p))) → all_defined (map f (map element (map g (upward from n)))) ≡ Some (map element (map k (upward from n)))
 all1 f g k from zero h = refl
 all1 f g k from (suc n) h =
-    next_defined (f (element (g from))) (element (k from)) _ _ (h from (omega arith) (omega arith))
+    all_defined-cons (f (element (g from))) (map f (map element (map g (upward (suc from) n)))) (element (k from)) (map element (map k (upward (suc from) n))) (h from (omega arith) (omega arith))
     (all1 f g k (suc from) n (λ p low high. h p (omega arith) (omega arith)))
 
 all2 : (f : Elem → Elem → Option Elem) (g h k : ℕ → ℤ) (from n : ℕ) → ((p : ℕ) → from ≤ p → p < from + n → f (element (g p)) (element (h p)) ≡ Some (element (k p))) → all_defined (map (λ q. f q.0 q.1) (zip (map element (map g (upward from n))) (map element (map h (upward from n))))) ≡ Some (map element (map k (upward from n)))
 all2 f g h k from zero e = refl
 all2 f g h k from (suc n) e =
-    next_defined (f (element (g from)) (element (h from))) (element (k from)) _ _ (e from (omega arith) (omega arith))
+    all_defined-cons (f (element (g from)) (element (h from))) (map (λ (q : Elem × Elem). f q.0 q.1) (zip (map element (map g (upward (suc from) n))) (map element (map h (upward (suc from) n))))) (element (k from)) (map element (map k (upward (suc from) n))) (e from (omega arith) (omega arith))
     (all2 f g h k (suc from) n (λ p low high. e p (omega arith) (omega arith)))
 
 -- the numbers of a descriptor, place by place

@@ -10,3 +10,4 @@ pub mod CombineLemmas
 pub mod FoldLemmas
 pub mod RunLemmas
 pub mod ProgressionLemmas
+pub mod PositionLemmas

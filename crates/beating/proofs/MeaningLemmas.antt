@@ -1,12 +1,13 @@
 -- A segment whose leaves are selections means the selection of what the old one means.
-use Rattle.std.proofs.Common.{◌≡◌, ℕ, zero, suc, ◌+◌, ◌<◌, ℤ, pos, false, IsTrue, List, [], ◌∷◌, length, map, get_or, Option, Some, refl, sym, ap, ◌∙◌, subst, arith, zero-add}
+use Rattle.std.proofs.Common.{◌≡◌, ℕ, ℤ, pos, false, IsTrue, List, [], ◌∷◌, length, Option, Some, refl, sym, ap, ◌∙◌, subst, arith}
 use Rattle.std.specs.List.{AllByRecursion}
 use Rattle.apl_base.specs.declared.cells.Elem.{Elem}
 use Rattle.apl_base.specs.declared.cells.Interval.{Interval}
-use Rattle.apl_base.specs.Array.{Array, IsShape, IsIndex, size_of, index_at, place_at, cell_at}
+use Rattle.apl_base.specs.Array.{Array, IsShape, IsIndex, size_of, place_at, cell_at}
 use Rattle.apl_base.specs.Interval.{InInterval, IsInterval}
-use Rattle.apl_base.specs.Selection.{upward}
-use Rattle.apl_base.proofs.Sizes.{place_at-below, index_at-place_at, IsIndex-index_at}
+use Rattle.apl_base.proofs.Lists.{all_place}
+use Rattle.apl_base.proofs.Sizes.{place_at-below}
+use Rattle.apl_base.proofs.Elements.{tabulated-count, tabulated-each, gathered-at}
 use Rattle.array_desc.specs.Desc.{IsDesc}
 use Rattle.array_store.specs.Stores.{StoreView}
 use Rattle.drag_along.specs.declared.nodes.Node.{Node}
@@ -22,41 +23,10 @@ use Rattle.beating.proofs.NodeLemmas.{FirstLeaf, first_leaf, reads_index, select
 
 -- ---- the cells of a selection
 
--- how many numbers there are
-length-upward : (from n : ℕ) → length (upward from n) ≡ n
-length-upward from zero = refl
-length-upward from (suc n) = ap suc (length-upward (suc from) n)
-
--- and how many results
-length-mapped : (f : ℕ → ℤ) (xs : List ℕ) → length (map f xs) ≡ length xs
-length-mapped f [] = refl
-length-mapped f (x ∷ xs) = ap suc (length-mapped f xs)
-
--- the result at a number
-get_or-upward : (f : ℕ → ℤ) (from n k : ℕ) → k < n → get_or (map f (upward from n)) k (pos 0) ≡ f (from + k)
-get_or-upward f from zero k below = absurd (omega (arith, below))
-get_or-upward f from (suc n) zero below = let e : from ≡ from + 0 = omega arith in ap f e
-get_or-upward f from (suc n) (suc k) below =
-    let e : suc from + k ≡ from + suc k = omega arith in get_or-upward f (suc from) n k (omega arith) ∙ ap f e
-
--- what is so of each number is so of all results
-all-upward : (P : ℤ → Type 0) (f : ℕ → ℤ) (from n : ℕ) → ((k : ℕ) → k < from + n → P (f k)) → AllByRecursion P (map f (upward from n))
-all-upward P f from zero h = tt
-all-upward P f from (suc n) h = (h from (omega arith), all-upward P f (suc from) n (λ k b. h k (omega (arith, b))))
-
--- what is so of all cells is so of each
-all-at : (P : ℤ → Type 0) (cells : List ℤ) (k : ℕ) → AllByRecursion P cells → k < length cells → P (get_or cells k (pos 0))
-all-at P [] k h b = absurd (omega (arith, b))
-all-at P (c ∷ cells) zero h b = h.0
-all-at P (c ∷ cells) (suc k) h b = all-at P cells k h.1 (omega (arith, b))
-
 -- at each index a selection has the cell at the index that it reads
 selected_cell_at : (by : Selection) (a : Array) (i : List ℕ) → IsIndex (selected_shape by a.shape) i → cell_at (selected by a) i ≡ cell_at a (selected_index by a.shape i)
 selected_cell_at by a i q =
-    let ns : List ℕ = selected_shape by a.shape in
-    get_or-upward (λ p. cell_at a (selected_index by a.shape (index_at ns p))) 0 (size_of ns) (place_at ns i) (place_at-below ns i q)
-    ∙ ap (λ p. cell_at a (selected_index by a.shape (index_at ns p))) (zero-add (place_at ns i))
-    ∙ ap (λ (j : List ℕ). cell_at a (selected_index by a.shape j)) (index_at-place_at ns i q)
+    gathered-at (selected_shape by a.shape) (selected_index by a.shape) a i q
 
 -- ---- a segment and its selection
 
@@ -102,8 +72,7 @@ its_array store by old new a h m = record {
   kind = m.kind ∙ sym h.kind;
   shape = ap (selected_shape by) m.shape ∙ sym h.shape;
   count =
-      length-mapped (λ p. cell_at a (selected_index by a.shape (index_at (selected_shape by a.shape) p))) (upward 0 (size_of (selected_shape by a.shape)))
-      ∙ length-upward 0 (size_of (selected_shape by a.shape))
+      tabulated-count a.kind (selected_shape by a.shape) (λ is. cell_at a (selected_index by a.shape is))
       ∙ ap size_of (ap (selected_shape by) m.shape ∙ sym h.shape);
   cells = λ i index.
       let q = index_in by old new i h index in
@@ -118,12 +87,10 @@ its_array store by old new a h m = record {
 -- the cells of a selection are among those of the array
 within : (by : Selection) (range : Interval) (a : Array) → FirstLeaf by a.shape → length a.cells ≡ size_of a.shape → AllByRecursion (InInterval range) a.cells → AllByRecursion (InInterval range) (selected by a).cells
 within by range a f count all =
-    let ns : List ℕ = selected_shape by a.shape in
-    all-upward (InInterval range) (λ p. cell_at a (selected_index by a.shape (index_at ns p))) 0 (size_of ns) (λ p below.
-    let q = IsIndex-index_at ns p (omega (arith, below)) in
-    let r = reads_index by a.shape (index_at ns p) f q in
-    let b = place_at-below a.shape (selected_index by a.shape (index_at ns p)) r in
-    all-at (InInterval range) a.cells (place_at a.shape (selected_index by a.shape (index_at ns p))) all (omega (arith, b, count)))
+    tabulated-each (InInterval range) a.kind (selected_shape by a.shape) (λ is. cell_at a (selected_index by a.shape is)) (λ is q.
+    let r = reads_index by a.shape is f q in
+    let b = place_at-below a.shape (selected_index by a.shape is) r in
+    all_place (InInterval range) a.cells (place_at a.shape (selected_index by a.shape is)) (pos 0) all (omega (arith, b, count)))
 
 -- ---- over a store
 

@@ -6,7 +6,7 @@ use Rattle.apl_base.specs.Array.{IsShape}
 use Rattle.apl_base.specs.Selection.{only_index}
 use Rattle.array_desc.specs.Desc.{DescView, IsDesc, Selects}
 use Rattle.array_desc.specs.Steps.{paired, WindowFits}
-use Rattle.array_desc.proofs.Indices.{length_of_index}
+use Rattle.apl_base.proofs.Sizes.{IsIndex-length}
 use Rattle.array_desc.proofs.Maps.{window_is_shape}
 use Rattle.beating.specs.declared.selections.Item.{Item}
 use Rattle.beating.specs.declared.selections.Item.TheVariants as item
@@ -149,7 +149,7 @@ passed_none old parts e = record {
   selects =
       let l = paired-none part_length rests_length parts old.shape e in
       selects_same old old old.shape (paired part_length (first 0 parts) old.shape) (λ i. i) (paired part_place (first 0 parts)) (selects_itself old) (sym l) (λ i q.
-      let c = length_of_index (paired part_length (first 0 parts) old.shape) i q in
+      let c = IsIndex-length (paired part_length (first 0 parts) old.shape) i q in
       sym (paired-none part_place rests_place parts i (omega (arith, e, ap length l, c))));
 }
 
@@ -186,7 +186,7 @@ passed_more old now new parts k p e b is h s =
           let many : length full ≡ length old.shape = length-paired part_length (first (suc k) parts) old.shape (length-first (suc k) parts ∙ e) in
           let both = selects_then old now new (paired part_length (first k parts) old.shape) (set now.shape k (part_length p (get_or now.shape k 0))) (paired part_place (first k parts)) (λ is. set is k (part_place p (get_or is k 0))) h.selects s in
           selects_same old new (set now.shape k (part_length p (get_or now.shape k 0))) full (λ i. paired part_place (first k parts) (set i k (part_place p (get_or i k 0)))) (paired part_place (first (suc k) parts)) both l (λ i q.
-          let c = length_of_index full i q in
+          let c = IsIndex-length full i q in
           ap (λ (r : Item). paired part_place (first k parts) (set i k (part_place r (get_or i k 0)))) is
           ∙ sym (paired-read part_place rests_place k parts i (omega (arith, e, many, c)) b));
     })

@@ -1,20 +1,22 @@
 -- Vectors of numbers, and the fetches that read them.
-use Rattle.std.proofs.Common.{◌≡◌, ℕ, zero, suc, ◌+◌, ◌/◌, ◌^◌, ◌<◌, ◌≤◌, ℤ, pos, negsuc, ◌+ℤ◌, ◌-ℤ◌, ◌*ℤ◌, ◌≤ℤ◌, ◌<ℤ◌, List, [], ◌∷◌, length, map, get_or, Fits, w64, FitsSigned, to_z, of_z, below_more, refl, sym, ap, subst, ◌∙◌, arith}
+use Rattle.std.proofs.Common.{◌≡◌, ℕ, zero, suc, ◌+◌, ◌/◌, ◌^◌, ◌<◌, ◌≤◌, ℤ, pos, negsuc, ◌+ℤ◌, ◌-ℤ◌, ◌*ℤ◌, ◌≤ℤ◌, ◌<ℤ◌, List, [], ◌∷◌, length, get_or, Fits, w64, FitsSigned, to_z, of_z, below_more, refl, sym, ap, subst, ◌∙◌, arith}
 use Rattle.std.specs.Prelude.{unsigned_abs}
 use Rattle.std.proofs.lemmas.Int.{ints, to_z-of_z}
 use mir.Syntax.{w128}
 use Rattle.apl_base.specs.declared.cells.Kind.TheVariants.{Num}
 use Rattle.apl_base.specs.Array.{IsIndex, size_of, index_at}
 use Rattle.apl_base.specs.Number.{IsNumber}
-use Rattle.apl_base.specs.Selection.{upward}
+use Rattle.apl_base.specs.Elements.{tabulated}
+use Rattle.apl_base.proofs.Elements.{tabulated-count, tabulated-place}
 use Rattle.array_desc.specs.Desc.{DescView, IsDesc, ShortAxesRest, dot, number}
-use Rattle.array_store.specs.Stores.{StoreView, counted, cells_of}
-use Rattle.array_store.specs.Counting.{OnlyFetched}
+use Rattle.array_store.specs.Stores.{StoreView, cells_of}
+use Rattle.array_store.specs.Counting.{after_fetches}
+use Rattle.array_store.proofs.CountingLemmas.{after_fetches-then}
 use Rattle.drag_along.specs.declared.leaves.Leaf.TheVariants.{Stored}
 use Rattle.drag_along.specs.Meaning.{leaf_cell, leaf_array}
 use Rattle.drag_along.specs.Lawful.{LiesIn}
 use Rattle.beating.specs.declared.runs.Run.{Run}
-use Rattle.beating.specs.Runs.{IsRunOf, numbers_of, vector_cell, after_fetches}
+use Rattle.beating.specs.Runs.{IsRunOf, numbers_of, vector_cell}
 
 -- ---- one cell
 
@@ -24,10 +26,6 @@ vector_index (n ∷ []) j h q = (omega (arith, q), tt)
 vector_index (n ∷ m ∷ ns) j h q = absurd (omega (arith, h))
 
 -- the place is one of the owner's cells
-pub place_below : (z : ℤ) (n : ℕ) → pos 0 ≤ℤ z → z <ℤ pos n → unsigned_abs z < n
-place_below (pos m) n h k = omega (arith, ints, k)
-place_below (negsuc m) n h k = absurd (omega (arith, ints, h))
-
 pub place_cast : (z : ℤ) (n : ℕ) → pos 0 ≤ℤ z → z <ℤ pos n → n < 2 ^ 64 → lib.Dec.T (lib.Signed.non_neg z) × Fits w64 (lib.IntN.nat_abs z)
 place_cast (pos m) n h k few = (tt, record { fits = omega (arith, ints, k) })
 place_cast (negsuc m) n h k few = absurd (omega (arith, ints, h))
@@ -44,29 +42,16 @@ pub record IsVector (numbers : List ℤ) (cell : ℕ → ℤ) (n : ℕ) : Type 0
   pub count : length numbers ≡ n
   pub each : (j : ℕ) → j < n → get_or numbers j (pos 0) ≡ cell j
 
-length-places : (f : ℕ → ℤ) (from n : ℕ) → length (map f (upward from n)) ≡ n
-length-places f from zero = refl
-length-places f from (suc n) = ap suc (length-places f (suc from) n)
-
-get_or-places : (f : ℕ → ℤ) (from n k : ℕ) → k < n → get_or (map f (upward from n)) k (pos 0) ≡ f (from + k)
-get_or-places f from zero k below = absurd (omega (arith, below))
-get_or-places f from (suc n) zero below = let e : from ≡ from + 0 = omega arith in ap f e
-get_or-places f from (suc n) (suc k) below =
-    let e : suc from + k ≡ from + suc k = omega arith in get_or-places f (suc from) n k (omega arith) ∙ ap f e
-
 index_at_place : (ns : List ℕ) (p : ℕ) → length ns ≡ 1 → index_at ns p ≡ p ∷ []
 index_at_place [] p h = absurd (omega (arith, h))
 index_at_place (n ∷ []) p h = let e : p / 1 ≡ p = omega arith in ap (λ (x : ℕ). let is : List ℕ = x ∷ [] in is) e
 index_at_place (n ∷ m ∷ ns) p h = absurd (omega (arith, h))
 
 -- of a vector's shape the index at each place is that place
-pub places_vector : (ns : List ℕ) (f : List ℕ → ℤ) → length ns ≡ 1 → IsVector (map (λ p. f (index_at ns p)) (upward 0 (size_of ns))) (λ j. f (j ∷ [])) (size_of ns)
+pub places_vector : (ns : List ℕ) (f : List ℕ → ℤ) → length ns ≡ 1 → IsVector (tabulated Num ns f).cells (λ j. f (j ∷ [])) (size_of ns)
 places_vector ns f h = record {
-  count = length-places (λ p. f (index_at ns p)) 0 (size_of ns);
-  each = λ j below.
-      let e : 0 + j ≡ j = omega arith in
-      get_or-places (λ p. f (index_at ns p)) 0 (size_of ns) j below
-      ∙ ap (λ (p : ℕ). f (index_at ns p)) e ∙ ap f (index_at_place ns j h);
+  count = tabulated-count Num ns f;
+  each = λ j below. tabulated-place Num ns f j (pos 0) below ∙ ap f (index_at_place ns j h);
 }
 
 -- ---- what makes them a progression
@@ -149,10 +134,7 @@ run_of_desc d from step n lawful h e f g =
 
 pub fetch_more : (s now new : StoreView) (j : ℕ) → now ≡ after_fetches s j → new ≡ after_fetches now 1 → new ≡ after_fetches s (j + 1)
 fetch_more s now new j e f =
-    let n = s.counts.fetched in
-    let again : counted (counted n j) 1 ≡ counted n (j + 1) = omega arith in
-    f ∙ ap (λ (x : StoreView). after_fetches x 1) e
-    ∙ ap (λ (m : ℕ). let x : StoreView = record s { counts = record s.counts { fetched = m } } in x) again
+    f ∙ ap (λ (x : StoreView). after_fetches x 1) e ∙ after_fetches-then s j 1
 
 pub lies_after : (s now : StoreView) (j owner : ℕ) (d : DescView) → now ≡ after_fetches s j → LiesIn s owner d Num → LiesIn now owner d Num
 lies_after s now j owner d e lies =
@@ -164,24 +146,6 @@ cells_after s now j owner e few = subst (λ (x : StoreView). length (cells_of x 
 
 pub cell_after : (s now : StoreView) (j owner : ℕ) (d : DescView) (k : ℕ) (x : ℤ) → now ≡ after_fetches s j → x ≡ vector_cell now owner d k → x ≡ vector_cell s owner d k
 cell_after s now j owner d k x e f = f ∙ ap (λ (y : StoreView). vector_cell y owner d k) e
-
-pub only_fetched : (s now : StoreView) (n most : ℕ) → now ≡ after_fetches s n → n ≤ most → s.counts.fetched < 2 ^ 64 → OnlyFetched s now most
-only_fetched s now n most e few small =
-    let done : OnlyFetched s (after_fetches s n) most = record {
-      only = refl;
-      fetched = record { low = omega (arith, small); high = omega (arith, few) };
-      applied = refl;
-      made = refl;
-    } in
-    subst (λ (x : StoreView). OnlyFetched s x most) (sym e) done
-
-pub none_fetched : (s : StoreView) (most : ℕ) → OnlyFetched s s most
-none_fetched s most = record {
-  only = refl;
-  fetched = record { low = omega arith; high = omega arith };
-  applied = refl;
-  made = refl;
-}
 
 -- ---- the loop
 

@@ -8,8 +8,9 @@ use mir.Syntax.{w128}
 use mir.Val.{to_z, of_z}
 use Rattle.apl_base.specs.Array.{IsIndex, size_of}
 use Rattle.apl_base.specs.Number.{IsNumber}
+use Rattle.array_desc.proofs.Canon.{parts_same}
 use Rattle.array_desc.specs.Desc.{DescView, IsDesc, ShortAxesRest, dot, number}
-use Rattle.array_desc.proofs.Algebra.{add_mul, mul_assoc}
+use Rattle.apl_base.proofs.Integers.{add_mul, mul_assoc}
 use Rattle.array_desc.proofs.Indices.{index_with_size}
 use Rattle.array_desc.proofs.Sums.{Numbers, Near, near-dot, number_at_first, number_fits}
 use Rattle.beating.specs.Folds.{AllRest}
@@ -20,10 +21,6 @@ is_number_zero = record { least = omega (arith, ints); most = omega (arith, ints
 -- a number is kept in 128 bits
 pub number_in_cell : (z : ℤ) → IsNumber z → FitsSigned w128 z
 number_in_cell z n = omega (arith, ints, n.least, n.most)
-
--- a descriptor with these parts
-pub desc_same : (d e : DescView) → d.base ≡ e.base → d.strides ≡ e.strides → d.shape ≡ e.shape → d ≡ e
-desc_same d e p q r = λ i. record { base = p i; strides = q i; shape = r i }
 
 -- ---- each number multiplied
 
@@ -159,7 +156,7 @@ shifted_parts d by base ss ns lawful h f g same =
     let b : base ≡ d.base = ap (λ (x : DescView). x.base) same in
     let sum : to_z w128 (of_z w128 base) +ℤ to_z w128 (of_z w128 by) ≡ d.base +ℤ by =
     ap (λ (x : ℤ). x +ℤ to_z w128 (of_z w128 by)) (to_z-of_z w128 base f ∙ b) ∙ ap (λ (x : ℤ). d.base +ℤ x) (to_z-of_z w128 by g) in
-    desc_same _ (shifted_desc d by)
+    parts_same _ (shifted_desc d by)
     (ap (λ (x : ℤ). to_z w128 (of_z w128 x)) sum ∙ to_z-of_z w128 (d.base +ℤ by) (number_in_cell (d.base +ℤ by) (shifted-base d by lawful h)))
     (ap (λ (x : DescView). x.strides) same) (ap (λ (x : DescView). x.shape) same)
 
@@ -174,7 +171,7 @@ shifted_fits d by base ss ns lawful h f g same =
 pub scaled_parts : (d : DescView) (by base : ℤ) (ss : List ℤ) (ns : List ℕ) (product : ℤ) (products : List ℤ) (shape : List ℕ) → FitsSigned w128 base → FitsSigned w128 by → FitsSigned w128 product → record { base = base; strides = ss; shape = ns } ≡ d → product ≡ int_wrap w128 (to_z w128 (of_z w128 base) *ℤ to_z w128 (of_z w128 by)) → products ≡ wrapped_times by d.strides → shape ≡ ns → record { base = to_z w128 (of_z w128 product); strides = products; shape = shape } ≡ scaled_desc d by
 scaled_parts d by base ss ns product products shape f g h same e p q =
     let b : base ≡ d.base = ap (λ (x : DescView). x.base) same in
-    desc_same _ (scaled_desc d by)
+    parts_same _ (scaled_desc d by)
     (to_z-of_z w128 product h ∙ e
     ∙ ap (λ (x : ℤ). int_wrap w128 (x *ℤ to_z w128 (of_z w128 by))) (to_z-of_z w128 base f ∙ b)
     ∙ ap (λ (x : ℤ). int_wrap w128 (d.base *ℤ x)) (to_z-of_z w128 by g))

@@ -1,4 +1,5 @@
 pub mod Selecting
 pub mod Runs
+pub mod Positions
 pub mod Folds
 pub mod Passes

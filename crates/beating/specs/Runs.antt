@@ -1,9 +1,9 @@
 -- Arithmetic progressions.
-use Rattle.std.specs.Prelude.{◌≡◌, ℕ, ◌<◌, ℤ, pos, ◌+ℤ◌, ◌*ℤ◌, unsigned_abs, List, [], ◌∷◌, length, map, slice_index_or, Option, Some, None}
-use Rattle.apl_base.specs.Array.{size_of, index_at}
-use Rattle.apl_base.specs.Selection.{upward}
+use Rattle.std.specs.Prelude.{◌≡◌, ℕ, ◌<◌, ℤ, pos, ◌+ℤ◌, ◌*ℤ◌, unsigned_abs, List, [], ◌∷◌, length, slice_index_or, Option, Some, None}
+use Rattle.apl_base.specs.declared.cells.Kind.TheVariants.{Num}
+use Rattle.apl_base.specs.Elements.{tabulated}
 use Rattle.array_desc.specs.Desc.{DescView, number}
-use Rattle.array_store.specs.Stores.{StoreView, counted, cell_of}
+use Rattle.array_store.specs.Stores.{StoreView, cell_of}
 use Rattle.beating.specs.declared.runs.Run.{Run}
 
 -- number j of a run
@@ -28,12 +28,8 @@ OneRun = (numbers : List ℤ) (r s : Run) → IsRunOf numbers r → IsRunOf numb
 
 -- the numbers of a descriptor, in row-major order
 abbrev pub numbers_of : DescView → List ℤ
-numbers_of d = map (λ p. number d (index_at d.shape p)) (upward 0 (size_of d.shape))
+numbers_of d = (tabulated Num d.shape (number d)).cells
 
 -- the cell that a vector's descriptor leads to at a place
 abbrev pub vector_cell : StoreView → ℕ → DescView → ℕ → ℤ
 vector_cell store owner d j = cell_of store owner (unsigned_abs (number d (j ∷ [])))
-
--- so many cells were fetched, and nothing else was done
-abbrev pub after_fetches : StoreView → ℕ → StoreView
-after_fetches store n = record store { counts = record store.counts { fetched = counted store.counts.fetched n } }

@@ -1,7 +1,8 @@
 -- What a selection keeps of an array, when it may be made, and what becomes of a pending expression.
 use Rattle.std.specs.Prelude.{◌≡◌, ℕ, ◌<◌, List, [], ◌∷◌, ◌++◌, length, map}
-use Rattle.apl_base.specs.Array.{Array, IsShape, size_of, index_at, cell_at}
-use Rattle.apl_base.specs.Selection.{Position, whole, one, run, CountsFit, take_shape, take_index, drop_shape, drop_index, reverse_index, AreAxes, axes_rank, transpose_shape, transpose_index, subscript_shape, subscript_index, only_index, outer_left_index, outer_right_index, upward}
+use Rattle.apl_base.specs.Array.{Array, IsShape, size_of}
+use Rattle.apl_base.specs.Elements.{gathered}
+use Rattle.apl_base.specs.Selection.{Position, whole, one, run, CountsFit, take_shape, take_index, drop_shape, drop_index, reverse_index, AreAxes, axes_rank, transpose_shape, transpose_index, subscript_shape, subscript_index, only_index, outer_left_index, outer_right_index}
 use Rattle.array_desc.specs.Desc.{DescView, Selects, RunFits}
 use Rattle.drag_along.specs.declared.leaves.Leaf.{Leaf}
 use Rattle.drag_along.specs.declared.leaves.Leaf.TheVariants.{Stored, Gen}
@@ -63,11 +64,7 @@ selected_index (select.OuterRight left) ns is = outer_right_index left is
 
 -- the selection of an array
 abbrev pub selected : Selection → Array → Array
-selected by a = let lengths = selected_shape by a.shape in record {
-  kind = a.kind;
-  shape = lengths;
-  cells = map (λ p. cell_at a (selected_index by a.shape (index_at lengths p))) (upward 0 (size_of lengths));
-}
+selected by a = gathered (selected_shape by a.shape) (selected_index by a.shape) a
 
 -- and of what an expression means
 abbrev pub selected_meaning : Selection → Meaning → Meaning

@@ -43,7 +43,8 @@ pub fn fold2(f: Dya, left: &Segment, right: &Segment) -> Option<Leaf>
     requires right_in_range { NumbersInRange right.now }
     ensures exact { IsSome result ↔ Folds2 f left.now right.now }
     ensures folded { IfSome result (λ leaf. (place : Place)
-        → FoldsTo right.now.shape leaf (λ store. combined2 f place (entry store left.now) (entry store right.now))) }
+        → FoldsTo right.now.shape leaf
+        (λ store. combined2 f place (entry store left.now) (entry store right.now))) }
     ensures within { IfSome result (λ leaf. (store : StoreView)
         → LeafWithin store leaf (ranged2 f (side_of left.now) (side_of right.now)).range) }
 {

@@ -6,19 +6,17 @@ mod combining;
 mod examples;
 mod folds;
 mod laws;
-#[cfg(test)]
-mod run_tests;
+mod positions;
 mod runs;
 mod scaling;
 mod selecting;
 mod selections;
 mod subscripts;
-#[cfg(test)]
-mod tests;
 
 pub use examples::run_examples;
 pub use folds::{fold1, fold2};
 pub use laws::fold_laws;
+pub use positions::item_of;
 pub use runs::{Run, as_progression, one_progression};
 pub use selecting::select;
 pub use selections::{Item, Selection};

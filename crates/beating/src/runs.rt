@@ -1,14 +1,15 @@
-ghost use Rattle.std.specs.Prelude.{◌≡◌, ◌*◌, ◌^◌, ◌<◌, length};
+ghost use Rattle.std.specs.Prelude.{◌≡◌, ◌*◌, ◌^◌, ◌<◌, false, length, IfSome};
 ghost use Rattle.apl_base.specs.declared.cells.Kind.TheVariants.{Num};
 ghost use Rattle.apl_base.specs.Array.{size_of};
 ghost use Rattle.apl_base.specs.Number.{IsNumber};
-ghost use Rattle.array_store.specs.Counting.{OnlyFetched};
+ghost use Rattle.array_store.specs.Counting.{OnlyFetched, after_fetches};
 ghost use Rattle.array_store.specs.Stores.{cells_of};
 ghost use Rattle.drag_along.specs.declared.leaves.Leaf.TheVariants.{Stored};
 ghost use Rattle.drag_along.specs.Nodes.{leaf_kind, leaf_shape, stored_of_leaf};
 ghost use Rattle.drag_along.specs.Meaning.{leaf_array};
 ghost use Rattle.drag_along.specs.Lawful.{IsLawfulLeaf, LiesIn};
-ghost use Rattle.beating.specs.Runs.{IsRunOf, IsRunIfAny, OneRun, numbers_of, vector_cell, after_fetches};
+ghost use Rattle.beating.specs.Positions.{ArePositions};
+ghost use Rattle.beating.specs.Runs.{IsRunOf, IsRunIfAny, OneRun, numbers_of, vector_cell};
 
 use apl_base::Cell;
 use array_desc::Desc;
@@ -30,7 +31,9 @@ pub fn as_progression(leaf: &Leaf, store: &mut Store) -> Option<Run>
     requires numbers { leaf_kind leaf.now ≡ Num }
     requires vector { length (leaf_shape leaf.now) ≡ 1 }
     ensures run { IsRunIfAny (leaf_array store.old (leaf_shape leaf.now) leaf.now).cells result }
-    ensures fetched { OnlyFetched store.old store.new (size_of (leaf_shape leaf.now) * stored_of_leaf leaf.now) }
+    ensures positions { IfSome result (λ run. ArePositions run false) }
+    ensures fetched { OnlyFetched store.old store.new
+        (size_of (leaf_shape leaf.now) * stored_of_leaf leaf.now) }
 {
     match leaf {
         Leaf::Gen { desc, .. } => Some(run_of_numbers(desc)),
@@ -41,7 +44,8 @@ pub fn as_progression(leaf: &Leaf, store: &mut Store) -> Option<Run>
 // The progression that the numbers of a vector's descriptor are.
 fn run_of_numbers(desc: &Desc) -> Run
     requires { length desc.now.shape ≡ 1 }
-    ensures { IsRunOf (numbers_of desc.now) result }
+    ensures run { IsRunOf (numbers_of desc.now) result }
+    ensures positions { ArePositions result false }
 {
     Run {
         from: desc.base,
@@ -55,7 +59,9 @@ fn run_of_numbers(desc: &Desc) -> Run
 fn run_of_cells(owner: OwnerId, desc: &Desc, store: &mut Store) -> Option<Run>
     requires lies { LiesIn store.old owner desc.now Num }
     requires vector { length desc.now.shape ≡ 1 }
-    ensures run { IsRunIfAny (leaf_array store.old desc.now.shape (Stored owner desc.now Num)).cells result }
+    ensures run { IsRunIfAny
+        (leaf_array store.old desc.now.shape (Stored owner desc.now Num)).cells result }
+    ensures positions { IfSome result (λ run. ArePositions run false) }
     ensures fetched { OnlyFetched store.old store.new (size_of desc.now.shape) }
 {
     // Both tell the proof that what they count fits its type.

@@ -19,10 +19,12 @@ pub fn is_constant(desc: &Desc) -> bool
 
 /// The descriptor with something added to each number.
 pub fn shifted(desc: &Desc, by: Cell) -> Desc
-    requires in_range { (i : List ℕ) → IsIndex desc.now.shape i → IsNumber (number_of desc.now i +ℤ by) }
+    requires in_range { (i : List ℕ) → IsIndex desc.now.shape i
+        → IsNumber (number_of desc.now i +ℤ by) }
     requires empty { size_of desc.now.shape ≡ 0 → by ≡ pos 0 }
     ensures shape { result.shape ≡ desc.now.shape }
-    ensures numbers { (i : List ℕ) → IsIndex desc.now.shape i → number_of result i ≡ number_of desc.now i +ℤ by }
+    ensures numbers { (i : List ℕ) → IsIndex desc.now.shape i
+        → number_of result i ≡ number_of desc.now i +ℤ by }
     ensures lawful { IsDesc result }
 {
     let mut moved = desc.copy();
@@ -32,9 +34,11 @@ pub fn shifted(desc: &Desc, by: Cell) -> Desc
 
 /// The descriptor with each number multiplied.
 pub fn scaled(desc: &Desc, by: Cell) -> Desc
-    requires { (i : List ℕ) → IsIndex desc.now.shape i → IsNumber (number_of desc.now i *ℤ by) }
+    requires { (i : List ℕ) → IsIndex desc.now.shape i
+        → IsNumber (number_of desc.now i *ℤ by) }
     ensures shape { result.shape ≡ desc.now.shape }
-    ensures numbers { (i : List ℕ) → IsIndex desc.now.shape i → number_of result i ≡ number_of desc.now i *ℤ by }
+    ensures numbers { (i : List ℕ) → IsIndex desc.now.shape i
+        → number_of result i ≡ number_of desc.now i *ℤ by }
     ensures constant { AllRest desc.now.strides → AllRest result.strides }
     ensures lawful { IsDesc result }
 {
@@ -47,7 +51,8 @@ pub fn scaled(desc: &Desc, by: Cell) -> Desc
 
 // The products of the strides, as 128 bits keep them.
 fn strides_times(desc: &Desc, by: Cell) -> SmallVec<Cell, 8>
-    ensures items { result.items ≡ map (λ stride. int_wrap w128 (stride *ℤ by)) desc.now.strides }
+    ensures items { result.items
+        ≡ map (λ stride. int_wrap w128 (stride *ℤ by)) desc.now.strides }
     ensures capacity { result.capacity ≡ 8 }
 {
     let mut products = SmallVec::new(*desc.strides.allocator());

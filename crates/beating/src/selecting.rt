@@ -95,7 +95,8 @@ fn select_desc(desc: &mut Desc, by: &Selection)
 // The shape of the first node, which is a leaf.
 fn shape_of(nodes: &[Node]) -> Shape
     requires { pending_after nodes.now 0 ≡ Some 1 }
-    ensures { (ns : List ℕ) → AllLeaves (λ leaf. leaf_shape leaf ≡ ns) nodes.now → result ≡ ns }
+    ensures { (ns : List ℕ) → AllLeaves (λ leaf. leaf_shape leaf ≡ ns) nodes.now
+        → result ≡ ns }
 {
     match &nodes[0] {
         Node::Operand { leaf } => leaf.desc().shape.copy(),

@@ -15,7 +15,8 @@ pub fn select_items(desc: &mut Desc, items: &[Item])
     requires lawful { IsDesc desc.old }
     requires items { ItemsFit items.now desc.old.shape }
     requires lengths { IsShape (subscript_shape (map position_of items.now) desc.old.shape) }
-    ensures selects { Selects desc.old desc.new (subscript_shape (map position_of items.now) desc.old.shape)
+    ensures selects { Selects desc.old desc.new
+        (subscript_shape (map position_of items.now) desc.old.shape)
         (subscript_index (map position_of items.now)) }
     ensures lawful { IsDesc desc.new }
 {
@@ -59,7 +60,8 @@ fn select_part(desc: &mut Desc, axis: usize, part: Item)
     requires lawful { IsDesc desc.old }
     requires axis { axis < length desc.old.shape }
     requires places { PartFits part (slice_index desc.old.shape axis) }
-    requires lengths { IsShape (slice_set desc.old.shape axis (part_length part (slice_index desc.old.shape axis))) }
+    requires lengths { IsShape
+        (slice_set desc.old.shape axis (part_length part (slice_index desc.old.shape axis))) }
     ensures selects { Selects desc.old desc.new
         (slice_set desc.old.shape axis (part_length part (slice_index desc.old.shape axis)))
         (λ is. slice_set is axis (part_place part (slice_index is axis))) }
@@ -74,7 +76,8 @@ fn select_part(desc: &mut Desc, axis: usize, part: Item)
 fn remove_axes(desc: &mut Desc, items: &[Item])
     requires lawful { IsDesc desc.old }
     requires ones { OneLeft items.now desc.old.shape }
-    ensures selects { Selects desc.old desc.new (subscript_shape (map end_of items.now) desc.old.shape)
+    ensures selects { Selects desc.old desc.new
+        (subscript_shape (map end_of items.now) desc.old.shape)
         (subscript_index (map end_of items.now)) }
     ensures lawful { IsDesc desc.new }
 {

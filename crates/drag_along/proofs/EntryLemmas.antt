@@ -8,6 +8,7 @@ use Rattle.apl_base.specs.declared.cells.Kind.{Kind}
 use Rattle.apl_base.specs.declared.cells.Elem.{Elem}
 use Rattle.apl_base.specs.declared.faults.Place.{Place}
 use Rattle.apl_base.specs.Array.{Array, IsIndex, size_of, index_at, place_at, cell_at}
+use Rattle.apl_base.specs.Elements.{element}
 use Rattle.apl_base.proofs.Sizes.{IsIndex-index_at, place_at-index_at}
 use Rattle.array_store.specs.Stores.{StoreView}
 use Rattle.drag_along.specs.declared.nodes.Node.{Node}
@@ -17,7 +18,7 @@ use Rattle.drag_along.specs.Meaning.{Meaning, Means, Faults, Pending, pending, s
 use Rattle.drag_along.proofs.MeaningLemmas.{after_nodes-stopped, HasCount, after_nodes-count}
 use Rattle.drag_along.proofs.LawfulLemmas.{HasForm, FormIf, entry-form}
 use Rattle.drag_along.proofs.JoinLemmas.{KindIf, entry-kind}
-use Rattle.drag_along.proofs.StepLemmas.{element_of, column, StepAgrees, step}
+use Rattle.drag_along.proofs.StepLemmas.{column, StepAgrees, step}
 
 -- what the arrays say of the nodes is what each index says
 abbrev pub Agrees : StoreView → List ℕ → List Node → List Array → Pending → Type 0
@@ -81,8 +82,8 @@ entry_is_meaning s g seg =
 
 -- ---- one meaning
 
-same_cell : (j k : Kind) (c d : ℤ) → Some (element_of j c) ∷ [] ≡ Some (element_of k d) ∷ [] → c ≡ d
-same_cell j k c d e = let h : element_of j c ≡ element_of k d = cc in ap (λ (x : Elem). x.cell) h
+same_cell : (j k : Kind) (c d : ℤ) → Some (element j c) ∷ [] ≡ Some (element k d) ∷ [] → c ≡ d
+same_cell j k c d e = let h : element j c ≡ element k d = cc in ap (λ (x : Elem). x.cell) h
 
 same_array : (a b : Array) → a.kind ≡ b.kind → a.shape ≡ b.shape → a.cells ≡ b.cells → a ≡ b
 same_array a b e f h =

@@ -14,6 +14,7 @@ use Rattle.apl_base.specs.declared.rows.Mon.{Mon}
 use Rattle.apl_base.specs.declared.rows.Dya.{Dya}
 use Rattle.apl_base.specs.Array.{Array, size_of}
 use Rattle.apl_base.specs.Interval.{InInterval}
+use Rattle.apl_base.specs.Elements.{element, elements, all_defined}
 use Rattle.apl_base.specs.Scalar.{scalar1, scalar2}
 use Rattle.value_range.specs.declared.sides.Side.{Side}
 use Rattle.value_range.specs.declared.sides.Ranged.{Ranged}
@@ -24,7 +25,7 @@ use Rattle.drag_along.specs.declared.nodes.Node.{Node}
 use Rattle.drag_along.specs.declared.nodes.Node.TheVariants.{Operand, One, Two}
 use Rattle.drag_along.specs.Nodes.{functions_in, pending_after, kind_of_nodes}
 use Rattle.drag_along.specs.Segments.{SegmentView, IsSegment, named_by, side_of, may_fail_at, joined1, joined2}
-use Rattle.drag_along.specs.Meaning.{Meaning, Means, Faults, Pending, pending, put, elements, all_defined, numbers_or, applied1, applied2, combined1, combined2, leaf_array, after_nodes, newest, entry}
+use Rattle.drag_along.specs.Meaning.{Meaning, Means, Faults, Pending, pending, put, numbers_or, applied1, applied2, combined1, combined2, leaf_array, after_nodes, newest, entry}
 use Rattle.drag_along.specs.Lawful.{MeansWithin, IsLawfulLeaf, IsLawful}
 use Rattle.drag_along.proofs.NodeLemmas.{AllLeaves-append, named_by_nodes-append, functions_in-append}
 use Rattle.drag_along.proofs.MeaningLemmas.{after_nodes-stopped, entry-one, entry-two}
@@ -101,18 +102,18 @@ AllGive-next range o rest given h =
     subst (λ (x : Option Elem). AllGive range (option_and_then (λ v. option_map (λ vs. v ∷ vs) rest) x)) (sym given.1)
     (AllGive-cons range given.0 rest given.2.cell h)
 
-given1 : (g : Elem → Option Elem) (k : Kind) (r range : Interval) → ((y : Elem) → IsMember (record { kind = k; interval = r }) y → GivesWithin range (g y)) → (cells : List ℤ) → AllByRecursion (InInterval r) cells → AllGive range (all_defined (map g (map (λ c. record { kind = k; cell = c }) cells)))
+given1 : (g : Elem → Option Elem) (k : Kind) (r range : Interval) → ((y : Elem) → IsMember (record { kind = k; interval = r }) y → GivesWithin range (g y)) → (cells : List ℤ) → AllByRecursion (InInterval r) cells → AllGive range (all_defined (map g (map (element k) cells)))
 given1 g k r range sound [] h = tt
 given1 g k r range sound (c ∷ cs) h =
-    AllGive-next range (g (record { kind = k; cell = c })) (all_defined (map g (map (λ c. record { kind = k; cell = c }) cs)))
+    AllGive-next range (g (record { kind = k; cell = c })) (all_defined (map g (map (element k) cs)))
     (sound (record { kind = k; cell = c }) (record { kind = refl; cell = h.0 })) (given1 g k r range sound cs h.1)
 
-given2 : (g : Elem → Elem → Option Elem) (j k : Kind) (q r range : Interval) → ((x y : Elem) → IsMember (record { kind = j; interval = q }) x → IsMember (record { kind = k; interval = r }) y → GivesWithin range (g x y)) → (us bs : List ℤ) → AllByRecursion (InInterval q) us → AllByRecursion (InInterval r) bs → AllGive range (all_defined (map (λ (p : Elem × Elem). g p.0 p.1) (zip (map (λ c. record { kind = j; cell = c }) us) (map (λ c. record { kind = k; cell = c }) bs))))
+given2 : (g : Elem → Elem → Option Elem) (j k : Kind) (q r range : Interval) → ((x y : Elem) → IsMember (record { kind = j; interval = q }) x → IsMember (record { kind = k; interval = r }) y → GivesWithin range (g x y)) → (us bs : List ℤ) → AllByRecursion (InInterval q) us → AllByRecursion (InInterval r) bs → AllGive range (all_defined (map (λ (p : Elem × Elem). g p.0 p.1) (zip (map (element j) us) (map (element k) bs))))
 given2 g j k q r range sound [] bs h i = tt
 given2 g j k q r range sound (a ∷ us) [] h i = tt
 given2 g j k q r range sound (a ∷ us) (b ∷ bs) h i =
     AllGive-next range (g (record { kind = j; cell = a }) (record { kind = k; cell = b }))
-    (all_defined (map (λ (p : Elem × Elem). g p.0 p.1) (zip (map (λ c. record { kind = j; cell = c }) us) (map (λ c. record { kind = k; cell = c }) bs))))
+    (all_defined (map (λ (p : Elem × Elem). g p.0 p.1) (zip (map (element j) us) (map (element k) bs))))
     (sound (record { kind = j; cell = a }) (record { kind = k; cell = b }) (record { kind = refl; cell = h.0 }) (record { kind = refl; cell = i.0 }))
     (given2 g j k q r range sound us bs h.1 i.1)
 
@@ -120,11 +121,11 @@ numbers_or-within : (range : Interval) (p : Place) (sh : List ℕ) (o : Option (
 numbers_or-within range p sh None h = h
 numbers_or-within range p sh (Some es) h = h
 
-none1 : (g : Elem → Option Elem) (k : Kind) (range : Interval) (cells : List ℤ) → length cells ≡ 0 → AllGive range (all_defined (map g (map (λ c. record { kind = k; cell = c }) cells)))
+none1 : (g : Elem → Option Elem) (k : Kind) (range : Interval) (cells : List ℤ) → length cells ≡ 0 → AllGive range (all_defined (map g (map (element k) cells)))
 none1 g k range [] h = tt
 none1 g k range (c ∷ cs) h = absurd (omega (arith, h))
 
-none2 : (g : Elem → Elem → Option Elem) (j k : Kind) (range : Interval) (us bs : List ℤ) → length us ≡ 0 → AllGive range (all_defined (map (λ (p : Elem × Elem). g p.0 p.1) (zip (map (λ c. record { kind = j; cell = c }) us) (map (λ c. record { kind = k; cell = c }) bs))))
+none2 : (g : Elem → Elem → Option Elem) (j k : Kind) (range : Interval) (us bs : List ℤ) → length us ≡ 0 → AllGive range (all_defined (map (λ (p : Elem × Elem). g p.0 p.1) (zip (map (element j) us) (map (element k) bs))))
 none2 g j k range [] bs h = tt
 none2 g j k range (c ∷ cs) bs h = absurd (omega (arith, h))
 

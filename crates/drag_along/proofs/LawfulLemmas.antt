@@ -1,24 +1,26 @@
 -- Lemmas on what segments have in common, and on lawful ones.
-use Rattle.std.proofs.Common.{◌≡◌, ℕ, zero, suc, ◌+◌, ◌<◌, Bool, List, [], ◌∷◌, ◌++◌, length, map, Option, Some, None, refl, sym, ap, ◌∙◌, subst, arith}
-use Rattle.std.specs.Option.{option_map}
+use Rattle.std.proofs.Common.{◌≡◌, ℕ, ◌+◌, ◌<◌, Bool, List, [], ◌∷◌, ◌++◌, length, map, Option, Some, None, refl, sym, ap, ◌∙◌, subst, arith}
 use Rattle.std.specs.List.{AllByRecursion, zip}
+use Rattle.std.proofs.lemmas.List.{length-map}
+use Rattle.std.proofs.lemmas.Slice.Zip.{length-zip}
 use Rattle.apl_base.specs.declared.cells.Kind.TheVariants.{Num}
 use Rattle.apl_base.specs.declared.cells.Elem.{Elem}
 use Rattle.apl_base.specs.declared.cells.Interval.{Interval}
 use Rattle.apl_base.specs.declared.faults.Place.{Place}
 use Rattle.apl_base.specs.declared.rows.Mon.{Mon}
 use Rattle.apl_base.specs.declared.rows.Dya.{Dya}
-use Rattle.apl_base.specs.Array.{Array, size_of, index_at}
+use Rattle.apl_base.specs.Array.{Array, size_of}
 use Rattle.apl_base.specs.Interval.{IsInterval}
+use Rattle.apl_base.specs.Elements.{elements, all_defined}
 use Rattle.apl_base.specs.Scalar.{scalar1, scalar2}
-use Rattle.apl_base.specs.Selection.{upward}
+use Rattle.apl_base.proofs.Elements.{length-elements, all_defined-length, tabulated-count}
 use Rattle.array_store.specs.Stores.{StoreView}
 use Rattle.drag_along.specs.declared.leaves.Leaf.{Leaf}
 use Rattle.drag_along.specs.declared.nodes.Node.{Node}
 use Rattle.drag_along.specs.declared.nodes.Node.TheVariants.{Operand, One, Two}
-use Rattle.drag_along.specs.Nodes.{AllLeaves, functions_in, pending_after}
+use Rattle.drag_along.specs.Nodes.{leaf_kind, AllLeaves, functions_in, pending_after}
 use Rattle.drag_along.specs.Segments.{SegmentView, IsSegment, HasShape}
-use Rattle.drag_along.specs.Meaning.{Meaning, Means, Faults, Pending, pending, stopped, put, elements, all_defined, numbers_or, applied1, applied2, leaf_cell, leaf_array, after_node, after_nodes, newest, entry}
+use Rattle.drag_along.specs.Meaning.{Meaning, Means, Faults, Pending, pending, stopped, put, numbers_or, applied1, applied2, leaf_cell, leaf_array, after_node, after_nodes, newest, entry}
 use Rattle.drag_along.proofs.NodeLemmas.{AllLeaves-append, functions_in-append, pending_after-append, pending_after-more, kind_of_nodes-one, kind_of_nodes-two}
 use Rattle.drag_along.proofs.MeaningLemmas.{HasCount, after_nodes-count}
 
@@ -80,60 +82,26 @@ abbrev pub FormsIf : List ℕ → Pending → Type 0
 FormsIf sh (pending us) = AllByRecursion (HasForm sh) us
 FormsIf sh (stopped p) = Unit {0}
 
-abbrev pub CountIf : {X : Type 0} → ℕ → Option (List X) → Type 0
-CountIf n None = Unit {0}
-CountIf n (Some es) = length es ≡ n
-
-CountIf-cons : {X : Type 0} (n : ℕ) (v : X) (o : Option (List X)) → CountIf n o → CountIf (suc n) (option_map (λ vs. v ∷ vs) o)
-CountIf-cons n v None h = tt
-CountIf-cons n v (Some es) h = ap suc h
-
-all_defined-count : {X : Type 0} (xs : List (Option X)) → CountIf (length xs) (all_defined xs)
-all_defined-count [] = refl
-all_defined-count (None ∷ xs) = tt
-all_defined-count (Some v ∷ xs) = CountIf-cons (length xs) v (all_defined xs) (all_defined-count xs)
-
-length-mapped : {X Y : Type 0} (g : X → Y) (xs : List X) → length (map g xs) ≡ length xs
-length-mapped g [] = refl
-length-mapped g (x ∷ xs) = ap suc (length-mapped g xs)
-
-length-zipped : {X Y : Type 0} (xs : List X) (ys : List Y) (n : ℕ) → length xs ≡ n → length ys ≡ n → length (zip xs ys) ≡ n
-length-zipped [] ys n h g = h
-length-zipped (x ∷ xs) [] n h g = absurd (omega (arith, h, g))
-length-zipped (x ∷ xs) (y ∷ ys) zero h g = absurd (omega (arith, h))
-length-zipped (x ∷ xs) (y ∷ ys) (suc n) h g = ap suc (length-zipped xs ys n (omega (arith, h)) (omega (arith, g)))
-
-pub length-upward : (from n : ℕ) → length (upward from n) ≡ n
-length-upward from zero = refl
-length-upward from (suc n) = ap suc (length-upward (suc from) n)
-
-numbers_or-form : (sh : List ℕ) (p : Place) (shape : List ℕ) (o : Option (List Elem)) → shape ≡ sh → CountIf (size_of sh) o → FormIf sh (numbers_or p shape o)
+numbers_or-form : (sh : List ℕ) (p : Place) (shape : List ℕ) (o : Option (List Elem)) → shape ≡ sh → ((es : List Elem) → o ≡ Some es → length es ≡ size_of sh) → FormIf sh (numbers_or p shape o)
 numbers_or-form sh p shape None e h = tt
-numbers_or-form sh p shape (Some es) e h = record { shape = e; count = length-mapped (λ e. e.cell) es ∙ h }
+numbers_or-form sh p shape (Some es) e h = record { shape = e; count = length-map es (λ (x : Elem). x.cell) ∙ h es refl }
 
 pub applied1-form : (sh : List ℕ) (f : Mon) (p : Place) (b : Array) → HasForm sh b → FormIf sh (applied1 f p b)
 applied1-form sh f p b h =
-    let many : length (map (scalar1 f) (elements b)) ≡ size_of sh =
-    length-mapped (scalar1 f) (elements b) ∙ length-mapped (λ c. record { kind = b.kind; cell = c }) b.cells ∙ h.count in
-    numbers_or-form sh p b.shape (all_defined (map (scalar1 f) (elements b))) h.shape
-    (subst (λ (n : ℕ). CountIf n (all_defined (map (scalar1 f) (elements b)))) many (all_defined-count (map (scalar1 f) (elements b))))
+    let values : List (Option Elem) = map (scalar1 f) (elements b) in
+    let many : length values ≡ size_of sh = length-map (elements b) (scalar1 f) ∙ length-elements b ∙ h.count in
+    numbers_or-form sh p b.shape (all_defined values) h.shape (λ es e. all_defined-length values es e ∙ many)
 
 pub applied2-form : (sh : List ℕ) (f : Dya) (p : Place) (a b : Array) → HasForm sh a → HasForm sh b → FormIf sh (applied2 f p a b)
 applied2-form sh f p a b g h =
-    let pairs : List (Option Elem) = map (λ (q : Elem × Elem). scalar2 f q.0 q.1) (zip (elements a) (elements b)) in
-    let many : length pairs ≡ size_of sh =
-    length-mapped (λ (q : Elem × Elem). scalar2 f q.0 q.1) (zip (elements a) (elements b))
-    ∙ length-zipped (elements a) (elements b) (size_of sh)
-    (length-mapped (λ c. record { kind = a.kind; cell = c }) a.cells ∙ g.count)
-    (length-mapped (λ c. record { kind = b.kind; cell = c }) b.cells ∙ h.count) in
-    numbers_or-form sh p b.shape (all_defined pairs) h.shape
-    (subst (λ (n : ℕ). CountIf n (all_defined pairs)) many (all_defined-count pairs))
+    let values : List (Option Elem) = map (λ (q : Elem × Elem). scalar2 f q.0 q.1) (zip (elements a) (elements b)) in
+    let pairs : length (zip (elements a) (elements b)) ≡ size_of sh =
+    omega (arith, length-zip (elements a) (elements b), length-elements a, length-elements b, g.count, h.count) in
+    let many : length values ≡ size_of sh = length-map (zip (elements a) (elements b)) (λ (q : Elem × Elem). scalar2 f q.0 q.1) ∙ pairs in
+    numbers_or-form sh p b.shape (all_defined values) h.shape (λ es e. all_defined-length values es e ∙ many)
 
 pub leaf_array-form : (s : StoreView) (sh : List ℕ) (leaf : Leaf) → HasForm sh (leaf_array s sh leaf)
-leaf_array-form s sh leaf = record {
-  shape = refl;
-  count = length-mapped (λ p. leaf_cell s leaf (index_at sh p)) (upward 0 (size_of sh)) ∙ length-upward 0 (size_of sh);
-}
+leaf_array-form s sh leaf = record { shape = refl; count = tabulated-count (leaf_kind leaf) sh (leaf_cell s leaf) }
 
 put-form : (sh : List ℕ) (v : Meaning) (us : List Array) → FormIf sh v → AllByRecursion (HasForm sh) us → FormsIf sh (put v us)
 put-form sh (Means a) us h g = (h, g)

@@ -1,15 +1,15 @@
 -- Segments of one leaf, and how often a segment names an owner.
-use Rattle.std.proofs.Common.{◌≡◌, ℕ, zero, suc, ◌+◌, ◌<◌, ◌≤◌, ℤ, pos, Bool, true, false, cond, List, [], ◌∷◌, length, map, get_or, Some, refl, sym, ap, ◌∙◌, subst, arith}
+use Rattle.std.proofs.Common.{◌≡◌, ℕ, zero, suc, ◌+◌, ◌<◌, ◌≤◌, pos, Bool, true, false, cond, List, [], ◌∷◌, Some, refl, sym, ap, ◌∙◌, subst, arith}
 use Rattle.std.specs.Prelude.{◌↔◌}
 use Rattle.std.specs.List.{AllByRecursion}
 use Rattle.std.proofs.Math.Dec.{eqb}
-use Rattle.std.proofs.lemmas.List.{length-map}
 use Rattle.apl_base.specs.declared.cells.Kind.{Kind}
 use Rattle.apl_base.specs.declared.cells.Interval.{Interval}
-use Rattle.apl_base.specs.Array.{IsIndex, size_of, index_at, place_at}
+use Rattle.apl_base.specs.Array.{IsIndex, place_at}
 use Rattle.apl_base.specs.Interval.{InInterval}
-use Rattle.apl_base.specs.Selection.{upward}
-use Rattle.apl_base.proofs.Sizes.{place_at-below, index_at-place_at}
+use Rattle.apl_base.proofs.Lists.{all_place}
+use Rattle.apl_base.proofs.Sizes.{place_at-below}
+use Rattle.apl_base.proofs.Elements.{tabulated-count, tabulated-at}
 use Rattle.array_store.specs.Stores.{StoreView}
 use Rattle.array_store.specs.Follows.{one_of}
 use Rattle.drag_along.specs.declared.leaves.Leaf.{Leaf}
@@ -22,8 +22,6 @@ use Rattle.drag_along.specs.Meaning.{Means, leaf_cell, leaf_array, entry}
 use Rattle.drag_along.specs.Lawful.{IsLawfulLeaf, LeafWithin, IsLawful}
 use Rattle.drag_along.specs.Views.{only_leaf}
 use Rattle.drag_along.proofs.LeafLemmas.{IsLawful-leaf, entry-leaf}
-use Rattle.drag_along.proofs.LawfulLemmas.{length-upward}
-use Rattle.drag_along.proofs.StepLemmas.{leaf_array-cell}
 
 -- ---- an owner is named at most as often as there are leaves
 
@@ -86,18 +84,12 @@ one_leaf_means s g leaf seg only = ap (entry s) (one_leaf_segment g leaf seg onl
 
 -- ---- the elements of a leaf, one by one and as a list
 
-pub by_place : {X : Type 0} (P : X → Type 0) (xs : List X) (k : ℕ) (d : X) → AllByRecursion P xs → k < length xs → P (get_or xs k d)
-by_place P [] k d h below = absurd (omega (arith, below))
-by_place P (x ∷ xs) zero d h below = h.0
-by_place P (x ∷ xs) (suc k) d h below = by_place P xs k d h.1 (omega (arith, below))
-
 -- where all cells of the array lie in the range, so do the leaf's elements
 pub array_within : (s : StoreView) (sh : List ℕ) (leaf : Leaf) (range : Interval) → AllByRecursion (InInterval range) (leaf_array s sh leaf).cells → (i : List ℕ) → IsIndex sh i → InInterval range (leaf_cell s leaf i)
 array_within s sh leaf range all i index =
-    let many : length (leaf_array s sh leaf).cells ≡ size_of sh =
-    length-map (upward 0 (size_of sh)) (λ p. leaf_cell s leaf (index_at sh p)) ∙ length-upward 0 (size_of sh) in
-    subst (InInterval range) (leaf_array-cell s sh leaf i index)
-    (by_place (InInterval range) (leaf_array s sh leaf).cells (place_at sh i) (pos 0) all (omega (arith, many, place_at-below sh i index)))
+    subst (InInterval range) (tabulated-at (leaf_kind leaf) sh (leaf_cell s leaf) i index)
+    (all_place (InInterval range) (leaf_array s sh leaf).cells (place_at sh i) (pos 0) all
+    (omega (arith, tabulated-count (leaf_kind leaf) sh (leaf_cell s leaf), place_at-below sh i index)))
 
 pub one_leaf_lawful : (s : StoreView) (leaf : Leaf) (range : Interval) → IsLawful s (leaf_segment leaf range) ↔ (IsLawfulLeaf s leaf × LeafWithin s leaf range)
 unfolding entry

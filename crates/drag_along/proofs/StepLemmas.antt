@@ -1,5 +1,5 @@
 -- What is computed by whole arrays is what each index says.
-use Rattle.std.proofs.Common.{◌≡◌, ℕ, zero, suc, ◌+◌, ◌<◌, ℤ, pos, false, IsTrue, List, [], ◌∷◌, length, map, get_or, Option, Some, None, refl, sym, ap, ◌∙◌, arith}
+use Rattle.std.proofs.Common.{◌≡◌, ℕ, zero, suc, ◌<◌, ℤ, pos, false, IsTrue, List, [], ◌∷◌, length, map, get_or, Option, Some, None, refl, sym, ap, ◌∙◌, arith}
 use Rattle.std.specs.Prelude.{is_none}
 use Rattle.std.specs.Option.{option_map, option_and_then}
 use Rattle.std.specs.List.{AllByRecursion, zip}
@@ -10,16 +10,16 @@ use Rattle.apl_base.specs.declared.faults.Place.{Place}
 use Rattle.apl_base.specs.declared.rows.Mon.{Mon}
 use Rattle.apl_base.specs.declared.rows.Dya.{Dya}
 use Rattle.apl_base.specs.declared.rows.Dya.TheVariants as dya
-use Rattle.apl_base.specs.Array.{Array, IsIndex, size_of, index_at, place_at, cell_at}
+use Rattle.apl_base.specs.Array.{Array, IsIndex, index_at, place_at, cell_at}
+use Rattle.apl_base.specs.Elements.{element, elements, all_defined}
 use Rattle.apl_base.specs.Scalar.{scalar1, scalar2, number as number_element}
-use Rattle.apl_base.specs.Selection.{upward}
-use Rattle.apl_base.proofs.Sizes.{IsIndex-index_at, place_at-below, place_at-index_at, index_at-place_at}
+use Rattle.apl_base.proofs.Sizes.{IsIndex-index_at, place_at-below, place_at-index_at}
+use Rattle.apl_base.proofs.Elements.{tabulated-at}
 use Rattle.array_store.specs.Stores.{StoreView}
-use Rattle.drag_along.specs.declared.leaves.Leaf.{Leaf}
 use Rattle.drag_along.specs.declared.nodes.Node.{Node}
 use Rattle.drag_along.specs.declared.nodes.Node.TheVariants.{Operand, One, Two}
 use Rattle.drag_along.specs.Nodes.{leaf_kind, node_place}
-use Rattle.drag_along.specs.Meaning.{Pending, pending, stopped, put, elements, all_defined, numbers_or, leaf_cell, leaf_array, value_at, fails_on, after_node}
+use Rattle.drag_along.specs.Meaning.{Pending, pending, stopped, put, numbers_or, leaf_cell, value_at, fails_on, after_node}
 use Rattle.drag_along.proofs.LawfulLemmas.{HasForm, FormIf, applied1-form, applied2-form, leaf_array-form}
 
 -- ---- a scalar function's value is a number
@@ -42,76 +42,59 @@ scalar2-number f x y = mapped-number _
 
 -- ---- the values of a list of cells, each or one missing
 
-abbrev pub element_of : Kind → ℤ → Elem
-element_of k c = record { kind = k; cell = c }
-
 abbrev pub Each1 : (Elem → Option Elem) → Kind → List ℤ → Option (List Elem) → Type 0
-Each1 g kind cells None = (k : ℕ) × (k < length cells) × (g (element_of kind (get_or cells k (pos 0))) ≡ None)
+Each1 g kind cells None = (k : ℕ) × (k < length cells) × (g (element kind (get_or cells k (pos 0))) ≡ None)
 Each1 g kind cells (Some es) =
-    (k : ℕ) → k < length cells → g (element_of kind (get_or cells k (pos 0))) ≡ Some (element_of Num (get_or (map (λ e. e.cell) es) k (pos 0)))
+    (k : ℕ) → k < length cells → g (element kind (get_or cells k (pos 0))) ≡ Some (element Num (get_or (map (λ e. e.cell) es) k (pos 0)))
 
-each1-cons : (g : Elem → Option Elem) (kind : Kind) (c : ℤ) (cs : List ℤ) (o : Option Elem) (r : Option (List Elem)) → g (element_of kind c) ≡ o → OnlyNumber o → Each1 g kind cs r → Each1 g kind (c ∷ cs) (option_and_then (λ v. option_map (λ vs. v ∷ vs) r) o)
+each1-cons : (g : Elem → Option Elem) (kind : Kind) (c : ℤ) (cs : List ℤ) (o : Option Elem) (r : Option (List Elem)) → g (element kind c) ≡ o → OnlyNumber o → Each1 g kind cs r → Each1 g kind (c ∷ cs) (option_and_then (λ v. option_map (λ vs. v ∷ vs) r) o)
 each1-cons g kind c cs None r e n h = (0, omega arith, e)
 each1-cons g kind c cs (Some v) None e n h = (suc h.0, omega (arith, h.1), h.2)
 each1-cons g kind c cs (Some v) (Some es) e n h = λ k. at k
   where
-    at : (k : ℕ) → k < suc (length cs) → g (element_of kind (get_or (c ∷ cs) k (pos 0))) ≡ Some (element_of Num (get_or (v.cell ∷ map (λ (e : Elem). e.cell) es) k (pos 0)))
-    at zero below = e ∙ ap (λ (q : Kind). Some (element_of q v.cell)) n
+    at : (k : ℕ) → k < suc (length cs) → g (element kind (get_or (c ∷ cs) k (pos 0))) ≡ Some (element Num (get_or (v.cell ∷ map (λ (e : Elem). e.cell) es) k (pos 0)))
+    at zero below = e ∙ ap (λ (q : Kind). Some (element q v.cell)) n
     at (suc k) below = h k (omega arith)
 
-each1 : (g : Elem → Option Elem) (kind : Kind) → ((y : Elem) → OnlyNumber (g y)) → (cells : List ℤ) → Each1 g kind cells (all_defined (map g (map (λ c. record { kind = kind; cell = c }) cells)))
+each1 : (g : Elem → Option Elem) (kind : Kind) → ((y : Elem) → OnlyNumber (g y)) → (cells : List ℤ) → Each1 g kind cells (all_defined (map g (map (element kind) cells)))
 each1 g kind numbers [] = λ k below. absurd (omega (arith, below))
 each1 g kind numbers (c ∷ cs) =
-    each1-cons g kind c cs (g (element_of kind c)) (all_defined (map g (map (λ c. record { kind = kind; cell = c }) cs))) refl (numbers (element_of kind c)) (each1 g kind numbers cs)
+    each1-cons g kind c cs (g (element kind c)) (all_defined (map g (map (element kind) cs))) refl (numbers (element kind c)) (each1 g kind numbers cs)
 
 abbrev pub Each2 : (Elem → Elem → Option Elem) → Kind → Kind → List ℤ → List ℤ → Option (List Elem) → Type 0
-Each2 g j kind bs cells None = (k : ℕ) × (k < length cells) × (g (element_of j (get_or bs k (pos 0))) (element_of kind (get_or cells k (pos 0))) ≡ None)
+Each2 g j kind bs cells None = (k : ℕ) × (k < length cells) × (g (element j (get_or bs k (pos 0))) (element kind (get_or cells k (pos 0))) ≡ None)
 Each2 g j kind bs cells (Some es) =
-    (k : ℕ) → k < length cells → g (element_of j (get_or bs k (pos 0))) (element_of kind (get_or cells k (pos 0))) ≡ Some (element_of Num (get_or (map (λ e. e.cell) es) k (pos 0)))
+    (k : ℕ) → k < length cells → g (element j (get_or bs k (pos 0))) (element kind (get_or cells k (pos 0))) ≡ Some (element Num (get_or (map (λ e. e.cell) es) k (pos 0)))
 
-each2-cons : (g : Elem → Elem → Option Elem) (j kind : Kind) (b : ℤ) (bs : List ℤ) (c : ℤ) (cs : List ℤ) (o : Option Elem) (r : Option (List Elem)) → g (element_of j b) (element_of kind c) ≡ o → OnlyNumber o → Each2 g j kind bs cs r → Each2 g j kind (b ∷ bs) (c ∷ cs) (option_and_then (λ v. option_map (λ vs. v ∷ vs) r) o)
+each2-cons : (g : Elem → Elem → Option Elem) (j kind : Kind) (b : ℤ) (bs : List ℤ) (c : ℤ) (cs : List ℤ) (o : Option Elem) (r : Option (List Elem)) → g (element j b) (element kind c) ≡ o → OnlyNumber o → Each2 g j kind bs cs r → Each2 g j kind (b ∷ bs) (c ∷ cs) (option_and_then (λ v. option_map (λ vs. v ∷ vs) r) o)
 each2-cons g j kind b bs c cs None r e n h = (0, omega arith, e)
 each2-cons g j kind b bs c cs (Some v) None e n h = (suc h.0, omega (arith, h.1), h.2)
 each2-cons g j kind b bs c cs (Some v) (Some es) e n h = λ k. at k
   where
-    at : (k : ℕ) → k < suc (length cs) → g (element_of j (get_or (b ∷ bs) k (pos 0))) (element_of kind (get_or (c ∷ cs) k (pos 0))) ≡ Some (element_of Num (get_or (v.cell ∷ map (λ (e : Elem). e.cell) es) k (pos 0)))
-    at zero below = e ∙ ap (λ (q : Kind). Some (element_of q v.cell)) n
+    at : (k : ℕ) → k < suc (length cs) → g (element j (get_or (b ∷ bs) k (pos 0))) (element kind (get_or (c ∷ cs) k (pos 0))) ≡ Some (element Num (get_or (v.cell ∷ map (λ (e : Elem). e.cell) es) k (pos 0)))
+    at zero below = e ∙ ap (λ (q : Kind). Some (element q v.cell)) n
     at (suc k) below = h k (omega arith)
 
-each2 : (g : Elem → Elem → Option Elem) (j kind : Kind) → ((x y : Elem) → OnlyNumber (g x y)) → (bs cells : List ℤ) → length bs ≡ length cells → Each2 g j kind bs cells (all_defined (map (λ (p : Elem × Elem). g p.0 p.1) (zip (map (λ c. record { kind = j; cell = c }) bs) (map (λ c. record { kind = kind; cell = c }) cells))))
+each2 : (g : Elem → Elem → Option Elem) (j kind : Kind) → ((x y : Elem) → OnlyNumber (g x y)) → (bs cells : List ℤ) → length bs ≡ length cells → Each2 g j kind bs cells (all_defined (map (λ (p : Elem × Elem). g p.0 p.1) (zip (map (element j) bs) (map (element kind) cells))))
 each2 g j kind numbers [] [] same = λ k below. absurd (omega (arith, below))
 each2 g j kind numbers [] (c ∷ cs) same = absurd (omega (arith, same))
 each2 g j kind numbers (b ∷ bs) [] same = absurd (omega (arith, same))
 each2 g j kind numbers (b ∷ bs) (c ∷ cs) same =
-    each2-cons g j kind b bs c cs (g (element_of j b) (element_of kind c))
-    (all_defined (map (λ (p : Elem × Elem). g p.0 p.1) (zip (map (λ c. record { kind = j; cell = c }) bs) (map (λ c. record { kind = kind; cell = c }) cs))))
-    refl (numbers (element_of j b) (element_of kind c)) (each2 g j kind numbers bs cs (omega (arith, same)))
+    each2-cons g j kind b bs c cs (g (element j b) (element kind c))
+    (all_defined (map (λ (p : Elem × Elem). g p.0 p.1) (zip (map (element j) bs) (map (element kind) cs))))
+    refl (numbers (element j b) (element kind c)) (each2 g j kind numbers bs cs (omega (arith, same)))
 
 -- ---- one node
 
 -- what the arrays pending have at an index
 abbrev pub column : List ℕ → List Array → List (Option Elem)
-column i us = map (λ (a : Array). Some (element_of a.kind (cell_at a i))) us
+column i us = map (λ (a : Array). Some (element a.kind (cell_at a i))) us
 
 abbrev pub StepAgrees : StoreView → List ℕ → Node → List Array → Pending → Type 0
 StepAgrees s sh x us (pending vs) =
     AllByRecursion (HasForm sh) vs × ((i : List ℕ) → IsIndex sh i → (value_at s i x (column i us) ≡ column i vs) × (fails_on x (column i us) ≡ false))
 StepAgrees s sh x us (stopped p) =
     (i : List ℕ) × IsIndex sh i × IsTrue (fails_on x (column i us)) × (node_place x ≡ p)
-
-pub get_or-upward : (f : ℕ → ℤ) (from n k : ℕ) → k < n → get_or (map f (upward from n)) k (pos 0) ≡ f (from + k)
-get_or-upward f from zero k below = absurd (omega (arith, below))
-get_or-upward f from (suc n) zero below = let e : from ≡ from + 0 = omega arith in ap f e
-get_or-upward f from (suc n) (suc k) below =
-    let e : suc from + k ≡ from + suc k = omega arith in get_or-upward f (suc from) n k (omega arith) ∙ ap f e
-
-pub leaf_array-cell : (s : StoreView) (sh : List ℕ) (leaf : Leaf) (i : List ℕ) → IsIndex sh i → cell_at (leaf_array s sh leaf) i ≡ leaf_cell s leaf i
-leaf_array-cell s sh leaf i index =
-    get_or-upward (λ p. leaf_cell s leaf (index_at sh p)) 0 (size_of sh) (place_at sh i) (place_at-below sh i index)
-    ∙ ap (λ p. leaf_cell s leaf (index_at sh p)) (zero_plus (place_at sh i)) ∙ ap (leaf_cell s leaf) (index_at-place_at sh i index)
-  where
-    zero_plus : (n : ℕ) → 0 + n ≡ n
-    zero_plus n = omega arith
 
 -- the place of an index is a place of an array of that shape
 place_within : (sh : List ℕ) (a b : Array) (i : List ℕ) → HasForm sh a → HasForm sh b → IsIndex sh i → place_at a.shape i < length b.cells
@@ -133,24 +116,24 @@ step1 s sh f p b us (Some es) h hs each form = (
 )
 step1 s sh f p b us None h hs each form =
     let k = each.0 in
-    let at : scalar1 f (element_of b.kind (cell_at b (index_at sh k))) ≡ None =
-    ap (λ (n : ℕ). scalar1 f (element_of b.kind (get_or b.cells n (pos 0)))) (place_of_index sh b b k h h each.1) ∙ each.2 in
+    let at : scalar1 f (element b.kind (cell_at b (index_at sh k))) ≡ None =
+    ap (λ (n : ℕ). scalar1 f (element b.kind (get_or b.cells n (pos 0)))) (place_of_index sh b b k h h each.1) ∙ each.2 in
     (index_at sh k, IsIndex-index_at sh k (omega (arith, each.1, h.count)), ap (λ (o : Option Elem). is_none o) at, refl)
 
 step2 : (s : StoreView) (sh : List ℕ) (f : Dya) (p : Place) (a b : Array) (us : List Array) (o : Option (List Elem)) → HasForm sh a → HasForm sh b → AllByRecursion (HasForm sh) us → Each2 (scalar2 f) a.kind b.kind a.cells b.cells o → FormIf sh (numbers_or p b.shape o) → StepAgrees s sh (Two f p) (a ∷ b ∷ us) (put (numbers_or p b.shape o) us)
 step2 s sh f p a b us (Some es) g h hs each form = (
   (form, hs),
   λ i index.
-      let found : scalar2 f (element_of a.kind (cell_at a i)) (element_of b.kind (cell_at b i)) ≡ Some (element_of Num (get_or (map (λ e. e.cell) es) (place_at b.shape i) (pos 0))) =
-      ap (λ (ns : List ℕ). scalar2 f (element_of a.kind (get_or a.cells (place_at ns i) (pos 0))) (element_of b.kind (cell_at b i))) (g.shape ∙ sym h.shape)
+      let found : scalar2 f (element a.kind (cell_at a i)) (element b.kind (cell_at b i)) ≡ Some (element Num (get_or (map (λ e. e.cell) es) (place_at b.shape i) (pos 0))) =
+      ap (λ (ns : List ℕ). scalar2 f (element a.kind (get_or a.cells (place_at ns i) (pos 0))) (element b.kind (cell_at b i))) (g.shape ∙ sym h.shape)
       ∙ each (place_at b.shape i) (place_within sh b b i h h index) in
       (ap (λ (o : Option Elem). o ∷ column i us) found, ap (λ (o : Option Elem). is_none o) found),
 )
 step2 s sh f p a b us None g h hs each form =
     let k = each.0 in
-    let at : scalar2 f (element_of a.kind (cell_at a (index_at sh k))) (element_of b.kind (cell_at b (index_at sh k))) ≡ None =
-    ap (λ (n : ℕ). scalar2 f (element_of a.kind (get_or a.cells n (pos 0))) (element_of b.kind (cell_at b (index_at sh k)))) (place_of_index sh a b k g h each.1)
-    ∙ ap (λ (n : ℕ). scalar2 f (element_of a.kind (get_or a.cells k (pos 0))) (element_of b.kind (get_or b.cells n (pos 0)))) (place_of_index sh b b k h h each.1)
+    let at : scalar2 f (element a.kind (cell_at a (index_at sh k))) (element b.kind (cell_at b (index_at sh k))) ≡ None =
+    ap (λ (n : ℕ). scalar2 f (element a.kind (get_or a.cells n (pos 0))) (element b.kind (cell_at b (index_at sh k)))) (place_of_index sh a b k g h each.1)
+    ∙ ap (λ (n : ℕ). scalar2 f (element a.kind (get_or a.cells k (pos 0))) (element b.kind (get_or b.cells n (pos 0)))) (place_of_index sh b b k h h each.1)
     ∙ each.2 in
     (index_at sh k, IsIndex-index_at sh k (omega (arith, each.1, h.count)), ap (λ (o : Option Elem). is_none o) at, refl)
 
@@ -158,7 +141,7 @@ pub step : (s : StoreView) (sh : List ℕ) (x : Node) (us : List Array) → AllB
 step s sh (Operand leaf) us h = (
   (leaf_array-form s sh leaf, h),
   λ i index.
-      (ap (λ (c : ℤ). let o : Option Elem = Some (element_of (leaf_kind leaf) c) in o ∷ column i us) (sym (leaf_array-cell s sh leaf i index)), refl),
+      (ap (λ (c : ℤ). let o : Option Elem = Some (element (leaf_kind leaf) c) in o ∷ column i us) (sym (tabulated-at (leaf_kind leaf) sh (leaf_cell s leaf) i index)), refl),
 )
 step s sh (One f p) [] h = (h, λ i index. (refl, refl))
 step s sh (One f p) (b ∷ us) h =

@@ -1,39 +1,27 @@
 -- Leaves that read all cells of an owner.
-use Rattle.std.proofs.Common.{◌≡◌, ℕ, ◌+◌, ◌<◌, ◌≤◌, ℤ, pos, List, [], ◌∷◌, length, map, get_or, Some, refl, sym, ap, ◌∙◌, subst, arith}
+use Rattle.std.proofs.Common.{◌≡◌, ℕ, ℤ, pos, List, length, get_or, refl, sym, ap, ◌∙◌, subst, arith}
 use Rattle.std.specs.Prelude.{unsigned_abs, slice_set}
 use Rattle.std.proofs.lemmas.Int.{ints}
-use Rattle.std.proofs.lemmas.List.{ext_get_or, length-map, length-set}
+use Rattle.std.proofs.lemmas.List.{length-set}
 use Rattle.std.proofs.Math.ListN.{set}
 use Rattle.apl_base.specs.declared.cells.Kind.{Kind}
-use Rattle.apl_base.specs.Array.{Array, IsIndex, size_of, index_at, place_at}
+use Rattle.apl_base.specs.Array.{Array, IsIndex, size_of, index_at}
 use Rattle.apl_base.specs.Interval.{hull}
-use Rattle.apl_base.specs.Selection.{upward}
 use Rattle.apl_base.proofs.Sizes.{IsIndex-index_at, place_at-below, place_at-index_at}
+use Rattle.apl_base.proofs.Upward.{list_by_places}
 use Rattle.array_desc.specs.Desc.{DescView, IsWhole, number}
-use Rattle.array_store.specs.Stores.{OwnerView, StoreView, owner_of, holders_of, cells_of, kind_of, interval_of, with_cell}
+use Rattle.array_store.specs.Stores.{OwnerView, StoreView, owner_of, cells_of, kind_of, interval_of, with_cell}
 use Rattle.array_store.proofs.StoreLemmas.{owner_found, owner_of-found, owner_at-with_cell}
 use Rattle.drag_along.specs.declared.leaves.Leaf.{Leaf}
 use Rattle.drag_along.specs.declared.leaves.Leaf.TheVariants.{Stored}
-use Rattle.drag_along.specs.Nodes.{leaf_shape}
 use Rattle.drag_along.specs.Meaning.{leaf_cell, leaf_array}
 use Rattle.drag_along.specs.Lawful.{LiesIn}
 use Rattle.drag_along.specs.Views.{IsWholeView, FillsShape, owner_array, StandsForArray}
-use Rattle.drag_along.proofs.LawfulLemmas.{length-upward}
-use Rattle.drag_along.proofs.StepLemmas.{get_or-upward}
-
--- a list is what it has at each place
-pub list_by_places : (f : ℕ → ℤ) (cells : List ℤ) (n : ℕ) → length cells ≡ n → ((p : ℕ) → p < n → f p ≡ get_or cells p (pos 0)) → map f (upward 0 n) ≡ cells
-list_by_places f cells n count each =
-    let long : length (map f (upward 0 n)) ≡ n = length-map (upward 0 n) f ∙ length-upward 0 n in
-    ext_get_or (pos 0) (map f (upward 0 n)) cells (long ∙ sym count) (λ p below.
-    let within : p < n = omega arith in
-    let zeroth : 0 + p ≡ p = omega arith in
-    get_or-upward f 0 n p within ∙ ap f zeroth ∙ each p within)
 
 -- it has at each place of the shape the cell there
 whole_cells : (s : StoreView) (key : ℕ) (shape : List ℕ) (desc : DescView) (kind : Kind) → length (cells_of s key) ≡ size_of shape → IsWhole shape desc → (leaf_array s shape (Stored key desc kind)).cells ≡ cells_of s key
 whole_cells s key shape desc kind count whole =
-    list_by_places (λ p. leaf_cell s (Stored key desc kind) (index_at shape p)) (cells_of s key) (size_of shape) count (λ p below.
+    list_by_places (λ p. leaf_cell s (Stored key desc kind) (index_at shape p)) (cells_of s key) (size_of shape) (pos 0) count (λ p below.
     let here : number desc (index_at shape p) ≡ pos p =
     whole.places (index_at shape p) (IsIndex-index_at shape p below) ∙ ap pos (place_at-index_at shape p below) in
     ap (λ (z : ℤ). get_or (cells_of s key) (unsigned_abs z) (pos 0)) here)

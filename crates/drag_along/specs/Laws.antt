@@ -1,10 +1,13 @@
 -- The laws of this crate's definitions, each of which a public function's contract states.
 use Rattle.std.specs.Prelude.{◌≡◌, ◌↔◌, ℕ, ◌≤◌, ℤ, List, Some, slice_set}
 use Rattle.apl_base.specs.declared.cells.Interval.{Interval}
-use Rattle.array_store.specs.Stores.{StoreView, cells_of, kind_of, with_cell}
+use Rattle.apl_base.specs.Array.{IsIndex}
+use Rattle.apl_base.specs.Number.{IsCell}
+use Rattle.array_desc.specs.Desc.{IsDesc}
+use Rattle.array_store.specs.Stores.{StoreView, IsStore, cells_of, kind_of, with_cell}
 use Rattle.array_store.specs.Follows.{Follows, Holds, both}
 use Rattle.drag_along.specs.declared.leaves.Leaf.{Leaf}
-use Rattle.drag_along.specs.Nodes.{leaf_shape, named_by_leaf}
+use Rattle.drag_along.specs.Nodes.{leaf_desc, leaf_kind, leaf_shape, named_by_leaf}
 use Rattle.drag_along.specs.Segments.{SegmentView, IsSegment, named_by, leaf_segment}
 use Rattle.drag_along.specs.Meaning.{Meaning, Means, IsMeaning, leaf_cell, leaf_array, entry}
 use Rattle.drag_along.specs.Lawful.{IsLawfulLeaf, LeafWithin, IsLawful, SameData}
@@ -35,6 +38,13 @@ abbrev pub SegmentKept : Type 0
 SegmentKept =
     (old new : StoreView) (segment : SegmentView) → SameData old new (named_by segment) → IsLawful old segment
     → IsLawful new segment × (entry new segment ≡ entry old segment)
+
+-- the cells of a lawful leaf are cells of its kind
+abbrev pub LeafCellsLawful : Type 0
+LeafCellsLawful =
+    (store : StoreView) (leaf : Leaf) (i : List ℕ) → IsStore store → IsDesc (leaf_desc leaf)
+    → IsLawfulLeaf store leaf → IsIndex (leaf_shape leaf) i
+    → IsCell (leaf_kind leaf) (leaf_cell store leaf i)
 
 -- ---- segments of one leaf, and how often an owner is named
 

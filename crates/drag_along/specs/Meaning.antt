@@ -8,9 +8,9 @@ use Rattle.apl_base.specs.declared.cells.Elem.{Elem}
 use Rattle.apl_base.specs.declared.faults.Place.{Place}
 use Rattle.apl_base.specs.declared.rows.Mon.{Mon}
 use Rattle.apl_base.specs.declared.rows.Dya.{Dya}
-use Rattle.apl_base.specs.Array.{Array, IsIndex, size_of, index_at, cell_at}
+use Rattle.apl_base.specs.Array.{Array, IsIndex, size_of, cell_at}
+use Rattle.apl_base.specs.Elements.{element, elements, numbers, all_defined, tabulated}
 use Rattle.apl_base.specs.Scalar.{scalar1, scalar2}
-use Rattle.apl_base.specs.Selection.{upward}
 use Rattle.array_desc.specs.Desc.{number}
 use Rattle.array_store.specs.Stores.{StoreView, cell_of}
 use Rattle.drag_along.specs.declared.leaves.Leaf.{Leaf}
@@ -28,7 +28,7 @@ leaf_cell store (Stored owner desc kind) i = cell_of store owner (unsigned_abs (
 leaf_cell store (Gen desc kind) i = number desc i
 
 abbrev pub leaf_element : StoreView → Leaf → List ℕ → Elem
-leaf_element store leaf i = record { kind = leaf_kind leaf; cell = leaf_cell store leaf i }
+leaf_element store leaf i = element (leaf_kind leaf) (leaf_cell store leaf i)
 
 -- a node takes its operands from the values pending, the newest first, and leaves its own: that of the leaf, or
 -- that of the function on its operands; None where an operand or the function has none
@@ -72,7 +72,7 @@ pub record IsItsArray (store : StoreView) (segment : SegmentView) (a : Array) : 
   pub kind : a.kind ≡ segment.kind
   pub shape : a.shape ≡ segment.shape
   pub count : length a.cells ≡ size_of segment.shape
-  pub cells : (i : List ℕ) → IsIndex segment.shape i → values_at store i segment.nodes [] ≡ Some (record { kind = a.kind; cell = cell_at a i }) ∷ []
+  pub cells : (i : List ℕ) → IsIndex segment.shape i → values_at store i segment.nodes [] ≡ Some (element a.kind (cell_at a i)) ∷ []
 
 -- what a pending expression means: an array, or the place of the function that fails first
 pub data Meaning : Type 0 where
@@ -86,17 +86,9 @@ IsMeaning store segment (Faults place) = (k : ℕ) × IsFirstFault store segment
 
 -- ---- the same, computed by whole arrays, node after node
 
-abbrev pub elements : Array → List Elem
-elements a = map (λ c. record { kind = a.kind; cell = c }) a.cells
-
--- the values, where all are defined
-abbrev pub all_defined : {X : Type 0} → List (Option X) → Option (List X)
-all_defined [] = Some []
-all_defined (x ∷ xs) = option_and_then (λ v. option_map (λ vs. v ∷ vs) (all_defined xs)) x
-
 -- an array of these numbers, where all are defined
 abbrev pub numbers_or : Place → List ℕ → Option (List Elem) → Meaning
-numbers_or place shape (Some es) = Means (record { kind = Num; shape = shape; cells = map (λ e. e.cell) es })
+numbers_or place shape (Some es) = Means (numbers shape es)
 numbers_or place shape None = Faults place
 
 -- a function of arrays of one shape, element by element
@@ -119,11 +111,7 @@ combined2 f place (Means a) (Means b) = applied2 f place a b
 
 -- what a leaf means in a segment of this shape
 abbrev pub leaf_array : StoreView → List ℕ → Leaf → Array
-leaf_array store shape leaf = record {
-  kind = leaf_kind leaf;
-  shape = shape;
-  cells = map (λ p. leaf_cell store leaf (index_at shape p)) (upward 0 (size_of shape));
-}
+leaf_array store shape leaf = tabulated (leaf_kind leaf) shape (leaf_cell store leaf)
 
 -- the arrays pending, the newest first, or the first fault
 pub data Pending : Type 0 where

@@ -1,4 +1,4 @@
-ghost use Rattle.drag_along.specs.Laws.{EntryIsMeaning, OneMeaning, FollowsKeeps, LeafKept, SegmentKept, OneLeafSegment, OneLeafMeans, OneLeafLawful, NamedAtMost, WholeViewStands, WrittenViewStands};
+ghost use Rattle.drag_along.specs.Laws.{EntryIsMeaning, OneMeaning, FollowsKeeps, LeafKept, LeafCellsLawful, SegmentKept, OneLeafSegment, OneLeafMeans, OneLeafLawful, NamedAtMost, WholeViewStands, WrittenViewStands};
 
 /// What is computed by whole arrays is what a segment means by its values and faults at each index, and a segment
 /// means nothing else.
@@ -11,6 +11,7 @@ pub fn meaning_laws()
 pub fn store_laws()
     ensures follows { FollowsKeeps }
     ensures leaf { LeafKept }
+    ensures cells { LeafCellsLawful }
     ensures segment { SegmentKept }
 {}
 

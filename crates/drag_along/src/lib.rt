@@ -7,8 +7,6 @@ mod laws;
 mod leaves;
 mod nodes;
 mod segments;
-#[cfg(test)]
-mod tests;
 
 pub use examples::meaning_examples;
 pub use laws::{leaf_laws, meaning_laws, store_laws, view_laws};

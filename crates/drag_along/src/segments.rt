@@ -63,7 +63,8 @@ impl Segment {
             → LeafWithin store leaf range → IsLawful store segment) }
         ensures meaning { IfOk result (λ segment. (store : StoreView)
             → entry store segment ≡ Means (leaf_array store (leaf_shape leaf) leaf)) }
-        ensures leaves { IfOk result (λ segment. (key : ℕ) → named_by segment key ≡ named_by_leaf leaf key) }
+        ensures leaves { IfOk result (λ segment. (key : ℕ)
+            → named_by segment key ≡ named_by_leaf leaf key) }
     {
         let shape = leaf.desc().shape.copy();
         let kind = leaf.kind();
@@ -153,11 +154,14 @@ pub fn join1(right: Segment, f: Mon, place: Place) -> Result<Segment, NoMemory>
     requires { functions_in right.nodes < 64 }
     ensures exact { IfOk result (λ joined. joined ≡ joined1 f place right) }
     ensures segment { IfOk result (λ joined. IsSegment joined) }
-    ensures lawful { IfOk result (λ joined. (store : StoreView) → IsLawful store right → IsLawful store joined) }
+    ensures lawful { IfOk result (λ joined. (store : StoreView)
+        → IsLawful store right → IsLawful store joined) }
     ensures meaning { IfOk result (λ joined. (store : StoreView)
         → entry store joined ≡ combined1 f place (entry store right)) }
-    ensures leaves { IfOk result (λ joined. (key : ℕ) → named_by joined key ≡ named_by right key) }
-    ensures functions { IfOk result (λ joined. functions_in joined.nodes ≡ functions_in right.nodes + 1) }
+    ensures leaves { IfOk result (λ joined. (key : ℕ)
+        → named_by joined key ≡ named_by right key) }
+    ensures functions { IfOk result (λ joined.
+        functions_in joined.nodes ≡ functions_in right.nodes + 1) }
 {
     with_one(right, f, place)
 }
@@ -199,8 +203,8 @@ pub fn join2(right: Segment, left: Segment, f: Dya, place: Place) -> Result<Segm
     requires few { functions_in right.nodes + functions_in left.nodes < 64 }
     ensures exact { IfOk result (λ joined. joined ≡ joined2 f place left right) }
     ensures segment { IfOk result (λ joined. IsSegment joined) }
-    ensures lawful { IfOk result (λ joined. (store : StoreView) → IsLawful store right → IsLawful store left
-        → IsLawful store joined) }
+    ensures lawful { IfOk result (λ joined. (store : StoreView)
+        → IsLawful store right → IsLawful store left → IsLawful store joined) }
     ensures meaning { IfOk result (λ joined. (store : StoreView)
         → entry store joined ≡ combined2 f place (entry store left) (entry store right)) }
     ensures leaves { IfOk result (λ joined. (key : ℕ)
@@ -219,7 +223,8 @@ fn with_two(right: Segment, left: Segment, f: Dya, place: Place) -> Result<Segme
     ensures segment { IfOk result (λ joined. IsSegment joined) }
     ensures right { IsSegment right }
     ensures left { IsSegment left }
-    ensures sound { IsSound2 (scalar2 f) (side_of left) (side_of right) (ranged2 f (side_of left) (side_of right)) }
+    ensures sound { IsSound2 (scalar2 f) (side_of left) (side_of right)
+        (ranged2 f (side_of left) (side_of right)) }
 {
     let known = range2(
         f,

@@ -14,16 +14,21 @@ pub fn item_laws()
 /// Laws for a loop over a walk: what is left after k items is the walk without its first k items; the next item
 /// is the item number k, an index of the shape; and where none is left, k is the size.
 pub fn walk_laws()
-    ensures next { (back : Bool) (ns : List ℕ) (k : ℕ) (i : List ℕ) (left : List (List ℕ)) → drop k (walk back ns) ≡ i ∷ left
-        → (k < size_of ns) × (i ≡ item back ns k) × IsIndex ns i × (left ≡ drop (k + 1) (walk back ns)) }
-    ensures end { (back : Bool) (ns : List ℕ) (k : ℕ) → drop k (walk back ns) ≡ [] → size_of ns ≤ k }
-    ensures left { (back : Bool) (ns : List ℕ) (k : ℕ) → length (drop k (walk back ns)) ≡ size_of ns - k }
+    ensures next { (back : Bool) (ns : List ℕ) (k : ℕ) (i : List ℕ) (left : List (List ℕ))
+        → drop k (walk back ns) ≡ i ∷ left
+        → (k < size_of ns) × (i ≡ item back ns k) × IsIndex ns i
+        × (left ≡ drop (k + 1) (walk back ns)) }
+    ensures end { (back : Bool) (ns : List ℕ) (k : ℕ) → drop k (walk back ns) ≡ []
+        → size_of ns ≤ k }
+    ensures left { (back : Bool) (ns : List ℕ) (k : ℕ)
+        → length (drop k (walk back ns)) ≡ size_of ns - k }
 {}
 
 /// Worked examples of the walk backwards.
 pub fn walk_examples()
     ensures scalar_back { indices_back [] ≡ [] ∷ [] }
     ensures vector_back { indices_back (3 ∷ []) ≡ (2 ∷ []) ∷ (1 ∷ []) ∷ (0 ∷ []) ∷ [] }
-    ensures matrix_back { indices_back (2 ∷ 2 ∷ []) ≡ (0 ∷ 1 ∷ []) ∷ (0 ∷ 0 ∷ []) ∷ (1 ∷ 1 ∷ []) ∷ (1 ∷ 0 ∷ []) ∷ [] }
+    ensures matrix_back { indices_back (2 ∷ 2 ∷ [])
+        ≡ (0 ∷ 1 ∷ []) ∷ (0 ∷ 0 ∷ []) ∷ (1 ∷ 1 ∷ []) ∷ (1 ∷ 0 ∷ []) ∷ [] }
     ensures none_back { indices_back (0 ∷ 2 ∷ []) ≡ [] }
 {}

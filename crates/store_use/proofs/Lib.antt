@@ -1,2 +1,3 @@
+mod Charges
 mod Rounds
 mod TwoOwners

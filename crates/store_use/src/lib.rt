@@ -8,8 +8,11 @@ ghost use Rattle.array_store.specs.Stores.{owner_at, counted};
 use apl_base::{Cell, Kind, NoMemory};
 use array_store::Store;
 
+mod came;
 #[cfg(test)]
 mod tests;
+
+pub use came::{held_and_let_go, live_is_what_came, taken_in_and_read, written_beside};
 
 /// Takes cells in, holds them twice and once again, writes one through the one holder, reads it back and lets
 /// go. The store ends as it began, but for what it counted.
@@ -27,8 +30,10 @@ pub fn written_and_let_go(
     ensures owners { (key : ℕ) → owner_at store.new key ≡ owner_at store.old key }
     ensures live { store.new.live ≡ store.old.live }
     ensures limit { store.new.limit ≡ store.old.limit }
-    ensures fetched { IfOk result (λ _. store.new.counts.fetched ≡ counted store.old.counts.fetched 1) }
-    ensures made { IfOk result (λ _. store.new.counts.made ≡ counted store.old.counts.made (vec_len cells)) }
+    ensures fetched { IfOk result (λ _.
+        store.new.counts.fetched ≡ counted store.old.counts.fetched 1) }
+    ensures made { IfOk result (λ _.
+        store.new.counts.made ≡ counted store.old.counts.made (vec_len cells)) }
     ensures applied { store.new.counts.applied ≡ store.old.counts.applied }
     ensures unchanged { OnErr result (store.new ≡ store.old) }
 {

@@ -1,7 +1,7 @@
 ghost use Rattle.std.specs.Prelude.{◌≡◌, [], All, IfOk};
 ghost use Rattle.apl_base.specs.Number.{IsNumber};
 
-use crate::{side_by_side, written_and_let_go};
+use crate::{side_by_side, taken_in_and_read, written_and_let_go};
 use apl_base::Cell;
 use array_store::Store;
 use std::alloc::AllocError;
@@ -34,5 +34,19 @@ fn each_owner_has_its_own(rt: HostRuntime) -> Result<(), Fail> {
     assert_eq!(rt; left.len(), 2);
     assert_eq!(rt; right.len(), 2);
     assert_eq!(rt; side_by_side(&mut store, left, right, 1, 70)?, (-2, 70));
+    Ok(())
+}
+
+#[test]
+fn what_was_taken_in_is_read(rt: HostRuntime) -> Result<(), Fail> {
+    let mut store = Store::new(rt.alloc(), 9);
+    let cells = filled(store.begin(2)?, &[5, -2])?;
+    assert_eq!(rt; cells.len(), 2);
+    let mut into = store.begin(2)?;
+    let owner = taken_in_and_read(&mut store, cells, &mut into)?;
+    assert_eq!(rt; into.first().copied(), Some(5));
+    assert_eq!(rt; into.last().copied(), Some(-2));
+    assert_eq!(rt; store.counts().fetched, 2);
+    assert_eq!(rt; store.holders(owner), 1);
     Ok(())
 }

@@ -9,7 +9,7 @@ use Rattle.value_range.specs.Laws.Magnitudes.{factorial-le}
 use Rattle.value_range.specs.Laws.Tests.{number_test}
 use Rattle.apl_base.specs.Number.{is_number}
 use Rattle.value_range.specs.declared.sides.Ranged.{Ranged}
-use Rattle.value_range.specs.Interval.{always, not_safe, safe_where, least_of, greatest_of}
+use Rattle.value_range.specs.Interval.{always, not_safe, safe_where, are_numbers, least_of, greatest_of}
 
 pub always-same : (r : Ranged) (x y p q : ℤ) → r ≡ always x y → x ≡ p → y ≡ q → r ≡ always p q
 always-same r x y p q e f g = e ∙ ap (λ (z : ℤ). always z y) f ∙ ap (always p) g
@@ -69,24 +69,21 @@ fails_fourth false b c d e = refl
 holds_all : (a b c d : Bool) → a ≡ true → b ≡ true → c ≡ true → d ≡ true → ((a && b) && (c && d)) ≡ true
 holds_all a b c d e f g h = ap (λ (t : Bool). (t && b) && (c && d)) e ∙ ap (λ (t : Bool). t && (c && d)) f ∙ ap (λ (t : Bool). t && d) g ∙ h
 
-abbrev four : ℤ → ℤ → ℤ → ℤ → Bool
-four p q s t = (is_number p && is_number q) && (is_number s && is_number t)
-
 not_where : (r : Ranged) (t : Bool) (lo hi : ℤ) → r ≡ not_safe → t ≡ false → r ≡ safe_where t lo hi
 not_where r t lo hi e f = e ∙ sym (ap (λ (u : Bool). safe_where u lo hi) f)
 
 module _ (r : Ranged) (p q s t : ℤ) where
   abbrev Box : Type 0
-  Box = r ≡ safe_where (four p q s t) (least_of p q s t) (greatest_of p q s t)
+  Box = r ≡ safe_where (are_numbers p q s t) (least_of p q s t) (greatest_of p q s t)
 
   pub box_second : r ≡ not_safe → None ≡ in_range q → Box
-  box_second e f = not_where r (four p q s t) (least_of p q s t) (greatest_of p q s t) e (fails_second (is_number p) (is_number q) (is_number s) (is_number t) (none_number q f))
+  box_second e f = not_where r (are_numbers p q s t) (least_of p q s t) (greatest_of p q s t) e (fails_second (is_number p) (is_number q) (is_number s) (is_number t) (none_number q f))
 
   pub box_third : r ≡ not_safe → None ≡ in_range s → Box
-  box_third e f = not_where r (four p q s t) (least_of p q s t) (greatest_of p q s t) e (fails_third (is_number p) (is_number q) (is_number s) (is_number t) (none_number s f))
+  box_third e f = not_where r (are_numbers p q s t) (least_of p q s t) (greatest_of p q s t) e (fails_third (is_number p) (is_number q) (is_number s) (is_number t) (none_number s f))
 
   pub box_fourth : r ≡ not_safe → None ≡ in_range t → Box
-  box_fourth e f = not_where r (four p q s t) (least_of p q s t) (greatest_of p q s t) e (fails_fourth (is_number p) (is_number q) (is_number s) (is_number t) (none_number t f))
+  box_fourth e f = not_where r (are_numbers p q s t) (least_of p q s t) (greatest_of p q s t) e (fails_fourth (is_number p) (is_number q) (is_number s) (is_number t) (none_number t f))
 
   pub box_all : (lo hi : ℤ) → r ≡ always lo hi → lo ≡ least_of p q s t → hi ≡ greatest_of p q s t → is_number p ≡ true → is_number q ≡ true → is_number s ≡ true → is_number t ≡ true → Box
   box_all lo hi e f g h k l m =

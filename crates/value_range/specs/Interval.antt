@@ -41,6 +41,10 @@ safe_where test lo hi = if test then always lo hi else not_safe
 abbrev pub is_only : ℤ → ℤ → ℤ → Bool
 is_only n a b = int_eq a n && int_eq b n
 
+-- both ends are 1, or both are -1
+abbrev pub are_units : ℤ → ℤ → Bool
+are_units a b = is_only (pos 1) a b || is_only (negsuc 0) a b
+
 -- 0 lies in a..b
 abbrev pub has_zero : ℤ → ℤ → Bool
 has_zero a b = int_le a (pos 0) && int_le (pos 0) b
@@ -48,6 +52,10 @@ has_zero a b = int_le a (pos 0) && int_le (pos 0) b
 -- both ends are 0 or 1
 abbrev pub are_truths : ℤ → ℤ → Bool
 are_truths a b = int_le (pos 0) a && int_le b (pos 1)
+
+-- each of four is a number of the language
+abbrev pub are_numbers : ℤ → ℤ → ℤ → ℤ → Bool
+are_numbers p q r s = (is_number p && is_number q) && (is_number r && is_number s)
 
 -- the least and the greatest of four
 abbrev pub least_of : ℤ → ℤ → ℤ → ℤ → ℤ
@@ -83,20 +91,32 @@ abbrev pub row1 : Mon → ℤ → ℤ → Ranged
 row1 mon.Plus a b = always a b
 row1 mon.Minus a b = always (neg_ℤ b) (neg_ℤ a)
 row1 mon.Sign a b = always (int_signum a) (int_signum b)
-row1 mon.Recip a b = safe_where (is_only (pos 1) a b || is_only (negsuc 0) a b) a b
+row1 mon.Recip a b = safe_where (are_units a b) a b
 row1 mon.Ceil a b = always a b
 row1 mon.Floor a b = always a b
 row1 mon.Abs a b = always (low_of a b) (most_of a b)
 row1 mon.Not a b = safe_where (are_truths a b) (pos 1 -ℤ b) (pos 1 -ℤ a)
-row1 mon.Fact a b = safe_where (int_le (pos 0) a && int_le b (pos 32)) (pos (factorial (unsigned_abs a))) (pos (factorial (unsigned_abs b)))
+row1 mon.Fact a b =
+    safe_where (int_le (pos 0) a && int_le b (pos 32))
+    (pos (factorial (unsigned_abs a)))
+    (pos (factorial (unsigned_abs b)))
 
 -- a function of two numbers, the left in a..b and the right in c..d
 abbrev pub row2 : Dya → ℤ → ℤ → ℤ → ℤ → Ranged
 row2 dya.Add a b c d = safe_where (is_number (a +ℤ c) && is_number (b +ℤ d)) (a +ℤ c) (b +ℤ d)
 row2 dya.Sub a b c d = safe_where (is_number (a -ℤ d) && is_number (b -ℤ c)) (a -ℤ d) (b -ℤ c)
-row2 dya.Mul a b c d = safe_where ((is_number (a *ℤ c) && is_number (a *ℤ d)) && (is_number (b *ℤ c) && is_number (b *ℤ d))) (least_of (a *ℤ c) (a *ℤ d) (b *ℤ c) (b *ℤ d)) (greatest_of (a *ℤ c) (a *ℤ d) (b *ℤ c) (b *ℤ d))
-row2 dya.Div a b c d = safe_where (is_only (pos 1) c d || is_only (negsuc 0) c d) (if is_only (pos 1) c d then a else neg_ℤ b) (if is_only (pos 1) c d then b else neg_ℤ a)
-row2 dya.Pow a b c d = safe_where ((int_le (pos 0) a && int_le (pos 0) c) && is_number (high_power b d)) (low_power a c) (high_power b d)
+row2 dya.Mul a b c d =
+    safe_where (are_numbers (a *ℤ c) (a *ℤ d) (b *ℤ c) (b *ℤ d))
+    (least_of (a *ℤ c) (a *ℤ d) (b *ℤ c) (b *ℤ d))
+    (greatest_of (a *ℤ c) (a *ℤ d) (b *ℤ c) (b *ℤ d))
+row2 dya.Div a b c d =
+    safe_where (are_units c d)
+    (if is_only (pos 1) c d then a else neg_ℤ b)
+    (if is_only (pos 1) c d then b else neg_ℤ a)
+row2 dya.Pow a b c d =
+    safe_where ((int_le (pos 0) a && int_le (pos 0) c) && is_number (high_power b d))
+    (low_power a c)
+    (high_power b d)
 row2 dya.Max a b c d = always (int_max a c) (int_max b d)
 row2 dya.Min a b c d = always (int_min a c) (int_min b d)
 row2 dya.Residue a b c d = safe_where (not (has_zero a b)) (pos 0) (most_of a b -ℤ pos 1)
@@ -126,11 +146,15 @@ at_kinds false Num Num row = row
 at_kinds false Num Char row = not_safe
 at_kinds false Char right row = not_safe
 
--- a row at two sides: an empty side comes before all else, then the kinds, then the row
-abbrev pub at_sides : Bool → (ℤ → ℤ → ℤ → ℤ → Ranged) → Kind → Interval → Kind → Interval → Ranged
-at_sides characters row left Empty right q = nothing
-at_sides characters row left (Span a b) right Empty = nothing
-at_sides characters row left (Span a b) right (Span c d) = at_kinds characters left right (row a b c d)
+-- a row at two kinds and intervals: an empty interval comes before all else, then the kinds, then the row
+abbrev pub at_intervals : Bool → (ℤ → ℤ → ℤ → ℤ → Ranged) → Kind → Interval → Kind → Interval → Ranged
+at_intervals characters row left Empty right q = nothing
+at_intervals characters row left (Span a b) right Empty = nothing
+at_intervals characters row left (Span a b) right (Span c d) = at_kinds characters left right (row a b c d)
+
+-- a row at two sides
+abbrev pub at_sides : Bool → (ℤ → ℤ → ℤ → ℤ → Ranged) → Side → Side → Ranged
+at_sides characters row a b = at_intervals characters row a.kind a.interval b.kind b.interval
 
 -- a row at one side: an empty side comes before all else, then the kind, then the row
 abbrev pub at_side : (ℤ → ℤ → Ranged) → Kind → Interval → Ranged
@@ -144,4 +168,4 @@ ranged1 f b = at_side (row1 f) b.kind b.interval
 
 -- what is known of `A f B`, A and B being of the sides
 abbrev pub ranged2 : Dya → Side → Side → Ranged
-ranged2 f a b = at_sides (takes_characters f) (row2 f) a.kind a.interval b.kind b.interval
+ranged2 f = at_sides (takes_characters f) (row2 f)

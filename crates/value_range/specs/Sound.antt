@@ -5,7 +5,7 @@ use Rattle.apl_base.specs.declared.cells.Elem.{Elem}
 use Rattle.apl_base.specs.declared.cells.Interval.{Interval}
 use Rattle.value_range.specs.declared.sides.Side.{Side}
 use Rattle.value_range.specs.declared.sides.Ranged.{Ranged}
-use Rattle.apl_base.specs.Interval.{InInterval, IsWithin}
+use Rattle.apl_base.specs.Interval.{IsInterval, InInterval, IsWithin}
 
 -- an element of a side: of its kind, with a cell in its interval
 pub record IsMember (s : Side) (e : Elem) : Type 0 where
@@ -33,3 +33,22 @@ pub record IsPart (s larger : Side) : Type 0 where
 pub record IsSharper (answer larger : Ranged) : Type 0 where
   pub range : IsWithin answer.range larger.range
   pub safe : IsTrue larger.safe → IsTrue answer.safe
+
+-- ---- laws of a rule, which says of two sides what is known of the values there
+
+-- the range of the rule is an interval
+abbrev pub IsIntervalRule : (Side → Side → Ranged) → Type 0
+IsIntervalRule rule = (a b : Side) → IsInterval a.interval → IsInterval b.interval → IsInterval (rule a b).range
+
+-- the rule is sound for a function of two arguments
+abbrev pub IsSoundRule : (Side → Side → Ranged) → (Elem → Elem → Option Elem) → Type 0
+IsSoundRule rule f = (a b : Side) → IsInterval a.interval → IsInterval b.interval → IsSound2 f a b (rule a b)
+
+-- the answer at two sides is sharper than that of the rule at all sides of which they are parts
+abbrev pub IsSharpAt : (Side → Side → Ranged) → Side → Side → Ranged → Type 0
+IsSharpAt rule a b answer =
+    (p q : Side) → IsInterval p.interval → IsInterval q.interval → IsPart a p → IsPart b q → IsSharper answer (rule p q)
+
+-- the rule is sharper over less
+abbrev pub IsMonotoneRule : (Side → Side → Ranged) → Type 0
+IsMonotoneRule rule = (a b : Side) → IsInterval a.interval → IsInterval b.interval → IsSharpAt rule a b (rule a b)

@@ -10,19 +10,23 @@ ghost use Rattle.apl_base.specs.Number.{IsNumber};
 ghost use Rattle.std.specs.Prelude.{◌≡◌};
 ghost use Rattle.value_range.specs.declared.sides.Side.{Side};
 ghost use Rattle.value_range.specs.Interval.{ranged1, ranged2};
-ghost use Rattle.value_range.specs.Sound.{IsMember, IsPart, IsSharper};
+ghost use Rattle.value_range.specs.Sound.{IsMember, IsPart, IsSharper, IsMonotoneRule};
 
-/// Where less is known of the arguments, no more is known of the values: over sides within others, the range is
-/// within the other's, and safe where that is.
+/// Where less is known of the arguments, no more is known of the values: over sides within others,
+/// the range is within the other's, and safe where that is.
 pub fn rules_are_monotone()
-    ensures one_argument { (f : Mon) (a wide : Side) → IsInterval a.interval → IsInterval wide.interval → IsPart a wide → IsSharper (ranged1 f a) (ranged1 f wide) }
-    ensures two_arguments { (f : Dya) (a b wide_a wide_b : Side) → IsInterval a.interval → IsInterval b.interval → IsInterval wide_a.interval → IsInterval wide_b.interval → IsPart a wide_a → IsPart b wide_b → IsSharper (ranged2 f a b) (ranged2 f wide_a wide_b) }
+    ensures one_argument { (f : Mon) (a wide : Side) → IsInterval a.interval
+        → IsInterval wide.interval → IsPart a wide → IsSharper (ranged1 f a) (ranged1 f wide) }
+    ensures two_arguments { (f : Dya) → IsMonotoneRule (ranged2 f) }
 {}
 
-/// The elements of a side: those of a part are those of the whole, and those of numbers are numbers of the language.
+/// The elements of a side: those of a part are those of the whole, and those of numbers are numbers
+/// of the language.
 pub fn members_of_sides()
-    ensures of_parts { (side wide : Side) (e : Elem) → IsPart side wide → IsMember side e → IsMember wide e }
-    ensures of_numbers { (side : Side) (e : Elem) → IsInterval side.interval → side.kind ≡ Num → IsMember side e → IsNumber e.cell }
+    ensures of_parts { (side wide : Side) (e : Elem) → IsPart side wide → IsMember side e
+        → IsMember wide e }
+    ensures of_numbers { (side : Side) (e : Elem) → IsInterval side.interval → side.kind ≡ Num
+        → IsMember side e → IsNumber e.cell }
 {}
 
 /// To lie within is an order of intervals.

@@ -1,5 +1,5 @@
-//! The interval rules: from what the arguments of a scalar function lie in, what its values lie in, and whether it
-//! is defined at all of them.
+//! The interval rules: from what the arguments of a scalar function lie in, what its values lie in,
+//! and whether it is defined at all of them.
 #![tactic(auto)]
 
 mod answers;

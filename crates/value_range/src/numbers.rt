@@ -26,10 +26,12 @@ pub fn product(a: Cell, b: Cell) -> Option<Cell>
     }
 }
 
-/// The greatest exponent at which a base of 2 or more may have a power that is a number: 2^119 is one, 2^120 none.
+/// The greatest exponent at which a base of 2 or more may have a power that is a number: 2^119 is
+/// one, 2^120 none.
 const LAST_EXPONENT: Cell = 119;
 
-/// The power, where it is a number. 0 to the power 0 is 1. There are no more multiplications than `LAST_EXPONENT`.
+/// The power, where it is a number. 0 to the power 0 is 1. There are no more multiplications than
+/// `LAST_EXPONENT`.
 pub fn power(base: Cell, exponent: Cell) -> Option<Cell>
     requires base_least { pos 0 ≤ℤ base }
     requires exponent_least { pos 0 ≤ℤ exponent }

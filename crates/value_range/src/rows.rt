@@ -6,7 +6,7 @@ ghost use Rattle.value_range.specs.declared.sides.Side.{Side};
 ghost use Rattle.value_range.specs.declared.sides.Ranged.{Ranged};
 ghost use Rattle.apl_base.specs.Interval.{IsSpan, IsInterval};
 ghost use Rattle.value_range.specs.Interval.{at_sides};
-ghost use Rattle.value_range.specs.Sound.{IsSound2, IsPart, IsSharper};
+ghost use Rattle.value_range.specs.Sound.{IsSound2, IsIntervalRule, IsSoundRule, IsSharpAt, IsMonotoneRule};
 
 pub mod one;
 pub mod two;
@@ -22,8 +22,8 @@ pub struct Ends {
     pub hi: Cell,
 }
 
-/// The interval rule of one scalar function. A function of one argument has it on the right, and its rule reads
-/// nothing of the left but that it isn't empty and of which kind it is.
+/// The interval rule of one scalar function. A function of one argument has it on the right, and
+/// its rule reads nothing of the left but that it isn't empty and of which kind it is.
 pub trait RangeRow {
     /// The function's value at two elements, where it has one.
     ghost value: { Elem → Elem → Option Elem };
@@ -43,20 +43,21 @@ pub trait RangeRow {
         ensures { result ≡ rule left.lo left.hi right.lo right.hi };
 
     /// The range is an interval of numbers.
-    ghost interval: { (a b : Side) → IsInterval a.interval → IsInterval b.interval → IsInterval (at_sides CHARACTERS rule a.kind a.interval b.kind b.interval).range };
+    ghost interval: { IsIntervalRule (at_sides CHARACTERS rule) };
 
-    /// Where the answer is safe, the function is defined at all elements of the sides, with values in the range.
-    ghost sound: { (a b : Side) → IsInterval a.interval → IsInterval b.interval → IsSound2 value a b (at_sides CHARACTERS rule a.kind a.interval b.kind b.interval) };
+    /// Where the answer is safe, the function is defined at all elements of the sides, with values
+    /// in the range.
+    ghost sound: { IsSoundRule (at_sides CHARACTERS rule) value };
 
     /// Sides that have less give a range within, and keep what is safe.
-    ghost sharper: { (a b p q : Side) → IsInterval a.interval → IsInterval b.interval → IsInterval p.interval → IsInterval q.interval → IsPart a p → IsPart b q → IsSharper (at_sides CHARACTERS rule a.kind a.interval b.kind b.interval) (at_sides CHARACTERS rule p.kind p.interval q.kind q.interval) };
+    ghost sharper: { IsMonotoneRule (at_sides CHARACTERS rule) };
 }
 
 /// A row at two sides: an empty side comes before all else, then the kinds, then the row.
 pub fn at_sides<R: RangeRow>(left: Side, right: Side) -> Ranged
     requires left { IsInterval left.interval }
     requires right { IsInterval right.interval }
-    ensures { result ≡ at_sides R.CHARACTERS R.rule left.kind left.interval right.kind right.interval }
+    ensures { result ≡ at_sides R.CHARACTERS R.rule left right }
 {
     match left.interval {
         Interval::Empty => nothing(),
@@ -77,10 +78,10 @@ pub fn at_sides<R: RangeRow>(left: Side, right: Side) -> Ranged
 pub fn range_of<R: RangeRow>(left: Side, right: Side) -> Ranged
     requires left { IsInterval left.interval }
     requires right { IsInterval right.interval }
-    ensures exact { result ≡ at_sides R.CHARACTERS R.rule left.kind left.interval right.kind right.interval }
+    ensures exact { result ≡ at_sides R.CHARACTERS R.rule left right }
     ensures interval { IsInterval result.range }
     ensures sound { IsSound2 R.value left right result }
-    ensures sharper { (wide_left wide_right : Side) → IsInterval wide_left.interval → IsInterval wide_right.interval → IsPart left wide_left → IsPart right wide_right → IsSharper result (at_sides R.CHARACTERS R.rule wide_left.kind wide_left.interval wide_right.kind wide_right.interval) }
+    ensures sharper { IsSharpAt (at_sides R.CHARACTERS R.rule) left right result }
 {
     at_sides::<R>(left, right)
 }

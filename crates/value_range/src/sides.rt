@@ -7,8 +7,8 @@ pub struct Side {
     pub interval: Interval,
 }
 
-/// What is known of a scalar function's values: what they lie in, and whether the function is defined at all
-/// the arguments.
+/// What is known of a scalar function's values: what they lie in, and whether the function is
+/// defined at all the arguments.
 #[derive(Clone, Copy, Debug, PartialEq, Eq)]
 pub struct Ranged {
     pub range: Interval,

@@ -1,9 +1,14 @@
 -- A stack of pending expressions as a list, the oldest first.
-use Rattle.std.specs.Prelude.{◌≡◌, ℕ, ◌<◌, ◌≤◌, IsTrue, List, Option, Some, None, slice_get, sum_by}
+use Rattle.std.specs.Prelude.{◌≡◌, ℕ, ◌+◌, ◌<◌, ◌≤◌, IsTrue, List, ◌++◌, map, Option, Some, None, slice_get, sum_by}
+use Rattle.std.specs.List.{AllByRecursion}
+use Rattle.array_store.specs.Stores.{StoreView, holders_of}
+use Rattle.array_store.specs.Follows.{LeafCounts}
 use Rattle.drag_along.specs.Segments.{SegmentView, named_by}
+use Rattle.drag_along.specs.Meaning.{Meaning, entry}
+use Rattle.drag_along.specs.Lawful.{IsLawful}
 
 -- how many leaves on the stack name an owner
-abbrev pub named_on : List SegmentView → ℕ → ℕ
+abbrev pub named_on : List SegmentView → LeafCounts
 named_on stack key = sum_by (λ segment. named_by segment key) stack
 
 -- the entry reads the owner
@@ -32,3 +37,24 @@ pub record IsLeast (P : SegmentView → Type 0) (stack : List SegmentView) (from
 abbrev pub IsLeastOrNone : (SegmentView → Type 0) → List SegmentView → ℕ → Option ℕ → Type 0
 IsLeastOrNone P stack from None = (k : ℕ) → from ≤ k → ¬ (IsSoAt P stack k)
 IsLeastOrNone P stack from (Some at) = IsLeast P stack from at
+
+-- ---- over a store
+
+-- what the entries mean, the oldest first
+abbrev pub entries : StoreView → List SegmentView → List Meaning
+entries store stack = map (entry store) stack
+
+-- each entry is lawful
+abbrev pub IsLawfulStack : StoreView → List SegmentView → Type 0
+IsLawfulStack store stack = AllByRecursion (IsLawful store) stack
+
+-- each owner has just as many holders as leaves on the stack, and those beside it, name it
+abbrev pub IsHeldBy : StoreView → List SegmentView → LeafCounts → Type 0
+IsHeldBy store stack beside = (key : ℕ) → holders_of store key ≡ named_on stack key + beside key
+
+-- where older and younger entries stayed and others came between them: the stack is lawful, it is held with the
+-- leaves beside it, and those that stayed mean what they meant
+pub record IsReplaced (old new : StoreView) (older came younger : List SegmentView) (beside : LeafCounts) : Type 0 where
+  pub lawful : IsLawfulStack new ((older ++ came) ++ younger)
+  pub held : IsHeldBy new ((older ++ came) ++ younger) beside
+  pub means : entries new ((older ++ came) ++ younger) ≡ (entries old older ++ entries new came) ++ entries old younger

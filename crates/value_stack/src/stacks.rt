@@ -37,7 +37,8 @@ impl Stack {
     /// Puts an entry on top. After want of memory the stack is as it was, and the entry is gone.
     pub fn push(&mut self, s: Segment) -> Result<(), NoMemory>
         ensures ok { OnOk result (self.new ≡ self.old ++ s ∷ []) }
-        ensures leaves { OnOk result ((key : ℕ) → named_on self.new key ≡ named_on self.old key + named_by s key) }
+        ensures leaves { OnOk result ((key : ℕ)
+            → named_on self.new key ≡ named_on self.old key + named_by s key) }
         ensures err { OnErr result (self.new ≡ self.old) }
     {
         self.entries.push(s)?;
@@ -46,8 +47,10 @@ impl Stack {
 
     /// Takes the newest entry off: `None` exactly where there is none.
     pub fn pop(&mut self) -> Option<Segment>
-        ensures taken { MatchOption result ((self.old ≡ []) × (self.new ≡ [])) (λ s. self.old ≡ self.new ++ s ∷ []) }
-        ensures leaves { MatchOption result ((key : ℕ) → named_on self.new key ≡ named_on self.old key)
+        ensures taken { MatchOption result ((self.old ≡ []) × (self.new ≡ []))
+            (λ s. self.old ≡ self.new ++ s ∷ []) }
+        ensures leaves { MatchOption result
+            ((key : ℕ) → named_on self.new key ≡ named_on self.old key)
             (λ s. (key : ℕ) → named_on self.new key + named_by s key ≡ named_on self.old key) }
     {
         self.entries.pop()

@@ -22,6 +22,14 @@ fetch-written-requires c =
     let len : length c.args.right.items ≡ vec_len c.args.right = search rules in
     omega (arith, cells, len, c.requires.in_right, length-set {A = ℤ})
 
+pub release-requires-3 : goal.release-requires-3
+release-requires-3 c =
+    let two = HasTwo-used _ _ _ _ _ _ _ _ _ _ _ _ refl c.in_ok-first.ensures.made c.in-Ok.ensures.made c.hold.ensures.held c.write.ensures.written c.release-2.ensures.kept in
+    let two' = HasTwo-counted _ _ _ _ _ _ _ _ two c.fetch-kept.ensures.counted in
+    let two'' = HasTwo-counted _ _ _ _ _ _ _ _ two' c.fetch-written.ensures.counted in
+    let first = ap (λ (o : OwnerView). o.holders) (owner_of-found c.fetch-written.new.self c.in_ok-first.first _ two''.first) in
+    omega (arith, first)
+
 pub release-requires-4 : goal.release-requires-4
 release-requires-4 c =
     let two = HasTwo-used _ _ _ _ _ _ _ _ _ _ _ _ refl c.in_ok-first.ensures.made c.in-Ok.ensures.made c.hold.ensures.held c.write.ensures.written c.release-2.ensures.kept in

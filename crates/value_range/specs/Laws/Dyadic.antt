@@ -8,7 +8,7 @@ use Rattle.apl_base.specs.declared.rows.Dya.TheVariants as dya
 use Rattle.apl_base.specs.Number.{IsNumber, is_number}
 use Rattle.apl_base.specs.Scalar.{of_numbers, in_range, quotient, residue, logical, truth, magnitude}
 use Rattle.apl_base.specs.Interval.{IsSpan}
-use Rattle.value_range.specs.Interval.{is_only, are_truths, has_zero, most_of, least_of, greatest_of, low_power, high_power, to_the}
+use Rattle.value_range.specs.Interval.{is_only, are_units, are_numbers, are_truths, has_zero, most_of, least_of, greatest_of, low_power, high_power, to_the}
 use Rattle.value_range.specs.Laws.Tests.{both, both_back, either_left, either_right, le_test, le_tested, number_test, number_tested, in_range-number, only_test, only_inside, truths_test, truths_tested, truth_cases}
 use Rattle.value_range.specs.Laws.Shown.{IsRow, Holds, Inside, Valued}
 use Rattle.value_range.specs.Laws.Products.{over_box, four_held, four_inside}
@@ -53,21 +53,17 @@ sub = record {
       (pair_tested (a -ℤ d) (b -ℤ c) (between (p -ℤ s) (q -ℤ r) (a -ℤ d) u.0 u.1 v) (between (p -ℤ s) (q -ℤ r) (b -ℤ c) u.0 u.1 w), record { least = v.least; most = w.most });
 }
 
--- the four products of the ends
-abbrev four : ℤ → ℤ → ℤ → ℤ → Bool
-four p q r s = (is_number p && is_number q) && (is_number r && is_number s)
-
-four_test : (p q r s : ℤ) → IsTrue (four p q r s) → IsNumber p × IsNumber q × IsNumber r × IsNumber s
+four_test : (p q r s : ℤ) → IsTrue (are_numbers p q r s) → IsNumber p × IsNumber q × IsNumber r × IsNumber s
 four_test p q r s e =
     let t = both (is_number p && is_number q) (is_number r && is_number s) e in
     let u = pair_test p q t.0 in
     let v = pair_test r s t.1 in
     (u.0, u.1, v.0, v.1)
 
-four_tested : (p q r s : ℤ) → IsNumber p → IsNumber q → IsNumber r → IsNumber s → IsTrue (four p q r s)
+four_tested : (p q r s : ℤ) → IsNumber p → IsNumber q → IsNumber r → IsNumber s → IsTrue (are_numbers p q r s)
 four_tested p q r s h k l m = both_back (is_number p && is_number q) (is_number r && is_number s) (pair_tested p q h k) (pair_tested r s l m)
 
-four_span : (p q r s : ℤ) → IsTrue (four p q r s) → IsSpan (least_of p q r s) (greatest_of p q r s)
+four_span : (p q r s : ℤ) → IsTrue (are_numbers p q r s) → IsSpan (least_of p q r s) (greatest_of p q r s)
 four_span p q r s e =
     let n = four_test p q r s e in
     let h = four_held p q r s in
@@ -75,13 +71,13 @@ four_span p q r s e =
     let o : least_of p q r s ≤ℤ greatest_of p q r s = let f = h.first in let P : ℤ → Type 0 = λ z. z ≤ℤ greatest_of p q r s in omega (arith, ints, f.least, f.most) in
     record { least = record { least = i.least; most = omega (arith, ints, o, i.most) }; order = o; most = record { least = omega (arith, ints, o, i.least); most = i.most } }
 
--- a product in a box lies between the four products of its ends
+-- a product in a box lies between the are_numbers products of its ends
 box_held : (a b c d x y : ℤ) → Holds a b x → Holds c d y → Holds (least_of (a *ℤ c) (a *ℤ d) (b *ℤ c) (b *ℤ d)) (greatest_of (a *ℤ c) (a *ℤ d) (b *ℤ c) (b *ℤ d)) (x *ℤ y)
 box_held a b c d x y h k =
     let f = four_held (a *ℤ c) (a *ℤ d) (b *ℤ c) (b *ℤ d) in
     over_box (least_of (a *ℤ c) (a *ℤ d) (b *ℤ c) (b *ℤ d)) (greatest_of (a *ℤ c) (a *ℤ d) (b *ℤ c) (b *ℤ d)) a b c d x y h k f.first f.second f.third f.fourth
 
-pub mul : IsRow (λ a b c d. four (a *ℤ c) (a *ℤ d) (b *ℤ c) (b *ℤ d)) (λ a b c d. least_of (a *ℤ c) (a *ℤ d) (b *ℤ c) (b *ℤ d)) (λ a b c d. greatest_of (a *ℤ c) (a *ℤ d) (b *ℤ c) (b *ℤ d)) (of_numbers dya.Mul)
+pub mul : IsRow (λ a b c d. are_numbers (a *ℤ c) (a *ℤ d) (b *ℤ c) (b *ℤ d)) (λ a b c d. least_of (a *ℤ c) (a *ℤ d) (b *ℤ c) (b *ℤ d)) (λ a b c d. greatest_of (a *ℤ c) (a *ℤ d) (b *ℤ c) (b *ℤ d)) (of_numbers dya.Mul)
 mul = record {
   span = λ a b c d h k t. four_span (a *ℤ c) (a *ℤ d) (b *ℤ c) (b *ℤ d) t;
   sound = λ a b c d x y h k p q t.
@@ -117,10 +113,6 @@ pub «min» : IsRow (λ a b c d. true) (λ a b c d. int_min a c) (λ a b c d. in
   smaller = λ a b c d p q r s h k l m i j t. (t, record { least = omega (arith, ints, clamps); most = omega (arith, ints, clamps) });
 }
 
--- only 1, or only -1
-abbrev units : ℤ → ℤ → Bool
-units c d = is_only (pos 1) c d || is_only (negsuc 0) c d
-
 quotient-one : (x : ℤ) → quotient x (pos 1) ≡ Some x
 quotient-one x =
     let r : unsigned_abs x % 1 ≡ 0 = omega arith in
@@ -148,7 +140,7 @@ other : (p q : Bool) → p ≡ false → IsTrue (p || q) → IsTrue q
 other true q e t = cc
 other false q e t = t
 
-div_sound : (t : Bool) (a b c d x y : ℤ) → IsSpan a b → Holds a b x → Holds c d y → is_only (pos 1) c d ≡ t → IsTrue (units c d) → Valued (chosen t a (neg_ℤ b)) (chosen t b (neg_ℤ a)) (quotient x y)
+div_sound : (t : Bool) (a b c d x y : ℤ) → IsSpan a b → Holds a b x → Holds c d y → is_only (pos 1) c d ≡ t → IsTrue (are_units c d) → Valued (chosen t a (neg_ℤ b)) (chosen t b (neg_ℤ a)) (quotient x y)
 div_sound true a b c d x y h p q e u =
     let o = only_test (pos 1) c d e in
     let f : y ≡ pos 1 = omega (arith, ints, o.0, o.1) in
@@ -169,10 +161,10 @@ not_both c d t = by (is_only (pos 1) c d) refl
     by false e = refl
 
 -- the same of the two is 1 over less of the divisors
-same_units : (c d r s : ℤ) → c ≤ℤ d → Inside c d r s → IsTrue (units r s) → IsTrue (units c d) × (is_only (pos 1) c d ≡ is_only (pos 1) r s)
+same_units : (c d r s : ℤ) → c ≤ℤ d → Inside c d r s → IsTrue (are_units r s) → IsTrue (are_units c d) × (is_only (pos 1) c d ≡ is_only (pos 1) r s)
 same_units c d r s h i u = by (is_only (pos 1) r s) refl
   where
-    by : (t : Bool) → is_only (pos 1) r s ≡ t → IsTrue (units c d) × (is_only (pos 1) c d ≡ t)
+    by : (t : Bool) → is_only (pos 1) r s ≡ t → IsTrue (are_units c d) × (is_only (pos 1) c d ≡ t)
     by true e =
         let o = only_inside (pos 1) c d r s h i e in
         (either_left (is_only (pos 1) c d) (is_only (negsuc 0) c d) o, o)
@@ -186,7 +178,7 @@ div_inside true false a b p q e i = cc
 div_inside false true a b p q e i = cc
 div_inside false false a b p q e i = record { least = omega (arith, ints); most = omega (arith, ints) }
 
-pub div : IsRow (λ a b c d. units c d) (λ a b c d. chosen (is_only (pos 1) c d) a (neg_ℤ b)) (λ a b c d. chosen (is_only (pos 1) c d) b (neg_ℤ a)) (of_numbers dya.Div)
+pub div : IsRow (λ a b c d. are_units c d) (λ a b c d. chosen (is_only (pos 1) c d) a (neg_ℤ b)) (λ a b c d. chosen (is_only (pos 1) c d) b (neg_ℤ a)) (of_numbers dya.Div)
 div = record {
   span = λ a b c d h k t. div_span (is_only (pos 1) c d) a b h;
   sound = λ a b c d x y h k p q t. div_sound (is_only (pos 1) c d) a b c d x y h p q refl t;

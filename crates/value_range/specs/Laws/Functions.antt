@@ -12,9 +12,9 @@ use Rattle.apl_base.specs.declared.rows.Dya.TheVariants as dya
 use Rattle.apl_base.specs.Scalar.{of_number, of_numbers, on_number, number, on_numbers, scalar1, scalar2, is_same, truth}
 use Rattle.value_range.specs.declared.sides.Side.{Side}
 use Rattle.apl_base.specs.Interval.{IsInterval}
-use Rattle.value_range.specs.Interval.{row1, row2, at_side, at_sides, takes_characters, ranged1, ranged2}
-use Rattle.value_range.specs.Sound.{IsSound1, IsSound2, IsPart, IsSharper}
-use Rattle.value_range.specs.Laws.Whole.{IsRule, rule, LiftsTo, at_sides-interval, at_sides-sharper, at_sides-sound, always-sound}
+use Rattle.value_range.specs.Interval.{row1, row2, at_side, at_intervals, at_sides, takes_characters, ranged1, ranged2}
+use Rattle.value_range.specs.Sound.{IsSound1, IsPart, IsSharper, IsIntervalRule, IsSoundRule, IsMonotoneRule}
+use Rattle.value_range.specs.Laws.Whole.{IsRule, rule, LiftsTo, at_intervals-interval, at_intervals-sharper, at_intervals-sound, always-sound}
 use Rattle.value_range.specs.Laws.Monadic as one
 use Rattle.value_range.specs.Laws.Dyadic as two
 use Rattle.value_range.specs.Laws.Dyadic.{truth_held}
@@ -61,27 +61,27 @@ lifts2 f = record {
       ap (λ (l : Kind). option_map number (on_number l (on_number y.kind (of_numbers f x.cell y.cell)))) h ∙ ap (λ (l : Kind). option_map number (on_number l (of_numbers f x.cell y.cell))) k;
 }
 
-parts : (t : Bool) (row : OfEnds Ranged) (value : ℤ → ℤ → Option ℤ) → IsRule row value → (a b p q : Side) → IsInterval a.interval → IsInterval b.interval → IsInterval p.interval → IsInterval q.interval → IsPart a p → IsPart b q → IsSharper (at_sides t row a.kind a.interval b.kind b.interval) (at_sides t row p.kind p.interval q.kind q.interval)
-parts t row value w a b p q h k l m i j =
-    let P : Kind → Type 0 = λ u. IsSharper (at_sides t row a.kind a.interval b.kind b.interval) (at_sides t row u p.interval q.kind q.interval) in
-    let Q : Kind → Type 0 = λ u. IsSharper (at_sides t row a.kind a.interval b.kind b.interval) (at_sides t row a.kind p.interval u q.interval) in
-    subst P i.kind (subst Q j.kind (at_sides-sharper t row value w a.kind a.interval p.interval b.kind b.interval q.interval h k l m i.interval j.interval))
+parts : (t : Bool) (row : OfEnds Ranged) (value : ℤ → ℤ → Option ℤ) → IsRule row value → IsMonotoneRule (at_sides t row)
+parts t row value w a b h k p q l m i j =
+    let P : Kind → Type 0 = λ u. IsSharper (at_sides t row a b) (at_intervals t row u p.interval q.kind q.interval) in
+    let Q : Kind → Type 0 = λ u. IsSharper (at_sides t row a b) (at_intervals t row a.kind p.interval u q.interval) in
+    subst P i.kind (subst Q j.kind (at_intervals-sharper t row value w a.kind a.interval p.interval b.kind b.interval q.interval h k l m i.interval j.interval))
 
 -- ---- functions of one argument, with a left side that is not read
 
-pub two1-interval : (f : Mon) (a b : Side) → IsInterval a.interval → IsInterval b.interval → IsInterval (at_sides false (λ _ _. row1 f) a.kind a.interval b.kind b.interval).range
-two1-interval f a b h k = at_sides-interval false (λ _ _. row1 f) _ (rule1 f) a.kind a.interval b.kind b.interval h k
+pub two1-interval : (f : Mon) → IsIntervalRule (at_sides false (λ _ _. row1 f))
+two1-interval f a b h k = at_intervals-interval false (λ _ _. row1 f) _ (rule1 f) a.kind a.interval b.kind b.interval h k
 
-pub two1-sound : (f : Mon) (a b : Side) → IsInterval a.interval → IsInterval b.interval → IsSound2 (λ x y. scalar1 f y) a b (at_sides false (λ _ _. row1 f) a.kind a.interval b.kind b.interval)
-two1-sound f a b h k t x y p q = at_sides-sound (λ _ _. row1 f) _ (λ x y. scalar1 f y) (rule1 f) (lifts1 f) a.kind a.interval b.kind b.interval h k t x y p.kind p.cell q.kind q.cell
+pub two1-sound : (f : Mon) → IsSoundRule (at_sides false (λ _ _. row1 f)) (λ x y. scalar1 f y)
+two1-sound f a b h k t x y p q = at_intervals-sound (λ _ _. row1 f) _ (λ x y. scalar1 f y) (rule1 f) (lifts1 f) a.kind a.interval b.kind b.interval h k t x y p.kind p.cell q.kind q.cell
 
-pub two1-sharper : (f : Mon) (a b p q : Side) → IsInterval a.interval → IsInterval b.interval → IsInterval p.interval → IsInterval q.interval → IsPart a p → IsPart b q → IsSharper (at_sides false (λ _ _. row1 f) a.kind a.interval b.kind b.interval) (at_sides false (λ _ _. row1 f) p.kind p.interval q.kind q.interval)
-two1-sharper f a b p q h k l m i j = parts false (λ _ _. row1 f) _ (rule1 f) a b p q h k l m i j
+pub two1-sharper : (f : Mon) → IsMonotoneRule (at_sides false (λ _ _. row1 f))
+two1-sharper f = parts false (λ _ _. row1 f) _ (rule1 f)
 
 -- ---- the rules
 
 -- with the same side on both, as with the side alone
-pub alone : (row : ℤ → ℤ → Ranged) (k : Kind) (p : Interval) → at_sides false (λ _ _. row) k p k p ≡ at_side row k p
+pub alone : (row : ℤ → ℤ → Ranged) (k : Kind) (p : Interval) → at_intervals false (λ _ _. row) k p k p ≡ at_side row k p
 alone row k Empty = refl
 alone row Num (Span a b) = refl
 alone row Char (Span a b) = refl
@@ -99,19 +99,19 @@ ranged1-sound f b h =
 pub ranged1-sharper : (f : Mon) (b q : Side) → IsInterval b.interval → IsInterval q.interval → IsPart b q → IsSharper (ranged1 f b) (ranged1 f q)
 ranged1-sharper f b q h k j =
     let P : Ranged → Type 0 = λ r. IsSharper r (ranged1 f q) in
-    let Q : Ranged → Type 0 = λ r. IsSharper (at_sides false (λ _ _. row1 f) b.kind b.interval b.kind b.interval) r in
-    subst P (alone (row1 f) b.kind b.interval) (subst Q (alone (row1 f) q.kind q.interval) (two1-sharper f b b q q h h k k j j))
+    let Q : Ranged → Type 0 = λ r. IsSharper (at_sides false (λ _ _. row1 f) b b) r in
+    subst P (alone (row1 f) b.kind b.interval) (subst Q (alone (row1 f) q.kind q.interval) (two1-sharper f b b h h q q k k j j))
 
-pub ranged2-interval : (f : Dya) (a b : Side) → IsInterval a.interval → IsInterval b.interval → IsInterval (ranged2 f a b).range
-ranged2-interval f a b h k = at_sides-interval (takes_characters f) (row2 f) _ (rule2 f) a.kind a.interval b.kind b.interval h k
+pub ranged2-interval : (f : Dya) → IsIntervalRule (ranged2 f)
+ranged2-interval f a b h k = at_intervals-interval (takes_characters f) (row2 f) _ (rule2 f) a.kind a.interval b.kind b.interval h k
 
-pub ranged2-sharper : (f : Dya) (a b p q : Side) → IsInterval a.interval → IsInterval b.interval → IsInterval p.interval → IsInterval q.interval → IsPart a p → IsPart b q → IsSharper (ranged2 f a b) (ranged2 f p q)
-ranged2-sharper f a b p q h k l m i j = parts (takes_characters f) (row2 f) _ (rule2 f) a b p q h k l m i j
+pub ranged2-sharper : (f : Dya) → IsMonotoneRule (ranged2 f)
+ranged2-sharper f = parts (takes_characters f) (row2 f) _ (rule2 f)
 
-numbers_sound : (f : Dya) (a b : Side) → IsInterval a.interval → IsInterval b.interval → IsSound2 (on_numbers f) a b (at_sides false (row2 f) a.kind a.interval b.kind b.interval)
-numbers_sound f a b h k t x y p q = at_sides-sound (row2 f) _ (on_numbers f) (rule2 f) (lifts2 f) a.kind a.interval b.kind b.interval h k t x y p.kind p.cell q.kind q.cell
+numbers_sound : (f : Dya) → IsSoundRule (at_sides false (row2 f)) (on_numbers f)
+numbers_sound f a b h k t x y p q = at_intervals-sound (row2 f) _ (on_numbers f) (rule2 f) (lifts2 f) a.kind a.interval b.kind b.interval h k t x y p.kind p.cell q.kind q.cell
 
-pub ranged2-sound : (f : Dya) (a b : Side) → IsInterval a.interval → IsInterval b.interval → IsSound2 (scalar2 f) a b (ranged2 f a b)
+pub ranged2-sound : (f : Dya) → IsSoundRule (ranged2 f) (scalar2 f)
 ranged2-sound dya.Add a b h k = numbers_sound dya.Add a b h k
 ranged2-sound dya.Sub a b h k = numbers_sound dya.Sub a b h k
 ranged2-sound dya.Mul a b h k = numbers_sound dya.Mul a b h k

@@ -1,5 +1,5 @@
 -- The rows of one argument, each with its left argument left unread.
-use Rattle.std.proofs.Common.{◌≡◌, Bool, true, IsTrue, ◌&&◌, ◌||◌, ◌⊎◌, inl, inr, ℤ, pos, negsuc, neg_ℤ, ◌-ℤ◌, ◌≤ℤ◌, int_le, nat_le, unsigned_abs, if◌then◌else◌, Some, None, refl, sym, ap, subst, arith}
+use Rattle.std.proofs.Common.{◌≡◌, Bool, true, IsTrue, ◌&&◌, ◌⊎◌, inl, inr, ℤ, pos, negsuc, neg_ℤ, ◌-ℤ◌, ◌≤ℤ◌, int_le, nat_le, unsigned_abs, if◌then◌else◌, Some, None, refl, sym, ap, subst, arith}
 use Rattle.apl_base.specs.declared.cells.TheConstants.{M}
 use Rattle.std.specs.Int.{int_signum}
 use Rattle.std.proofs.lemmas.Int.{ints, clamps}
@@ -7,7 +7,7 @@ use Rattle.apl_base.specs.declared.rows.Mon.TheVariants as mon
 use Rattle.apl_base.specs.Number.{IsNumber}
 use Rattle.apl_base.specs.Scalar.{of_number, factorial, magnitude}
 use Rattle.apl_base.specs.Interval.{IsSpan}
-use Rattle.value_range.specs.Interval.{is_only, are_truths, has_zero, most_of}
+use Rattle.value_range.specs.Interval.{is_only, are_units, are_truths, has_zero, most_of}
 use Rattle.value_range.specs.Laws.Tests.{both, both_back, either, either_left, either_right, le_test, le_tested, only_test, only_inside, truths_test, truths_tested, truth_cases}
 use Rattle.value_range.specs.Laws.Shown.{IsRow, Holds, Inside, Valued}
 use Rattle.value_range.specs.Laws.Magnitudes.{low_at, magnitude-most, low-magnitude, low-inside, low_nonnegative, most-inside, int_signum-le, factorial-le}
@@ -40,11 +40,7 @@ sign = record {
   smaller = λ a b c d p q r s h k l m i j t. (t, record { least = int_signum-le r c j.least; most = int_signum-le d s j.most });
 }
 
--- only 1, or only -1
-abbrev units : ℤ → ℤ → Bool
-units c d = is_only (pos 1) c d || is_only (negsuc 0) c d
-
-units_out : (c d y : ℤ) → Holds c d y → IsTrue (units c d) → (y ≡ pos 1) ⊎ (y ≡ negsuc 0)
+units_out : (c d y : ℤ) → Holds c d y → IsTrue (are_units c d) → (y ≡ pos 1) ⊎ (y ≡ negsuc 0)
 units_out c d y h t =
     elim (either (is_only (pos 1) c d) (is_only (negsuc 0) c d) t) as (λ _. (y ≡ pos 1) ⊎ (y ≡ negsuc 0)) [
       | inl l ↦ let e = only_test (pos 1) c d l in inl (omega (arith, ints, e.0, e.1))
@@ -55,14 +51,14 @@ recip_of : (y : ℤ) → (y ≡ pos 1) ⊎ (y ≡ negsuc 0) → of_number mon.Re
 recip_of y (inl e) = subst (λ (z : ℤ). of_number mon.Recip z ≡ Some z) (sym e) refl
 recip_of y (inr e) = subst (λ (z : ℤ). of_number mon.Recip z ≡ Some z) (sym e) refl
 
-units_inside : (c d r s : ℤ) → c ≤ℤ d → Inside c d r s → IsTrue (units r s) → IsTrue (units c d)
+units_inside : (c d r s : ℤ) → c ≤ℤ d → Inside c d r s → IsTrue (are_units r s) → IsTrue (are_units c d)
 units_inside c d r s h i t =
-    elim (either (is_only (pos 1) r s) (is_only (negsuc 0) r s) t) as (λ _. IsTrue (units c d)) [
+    elim (either (is_only (pos 1) r s) (is_only (negsuc 0) r s) t) as (λ _. IsTrue (are_units c d)) [
       | inl l ↦ either_left (is_only (pos 1) c d) (is_only (negsuc 0) c d) (only_inside (pos 1) c d r s h i l)
       | inr l ↦ either_right (is_only (pos 1) c d) (is_only (negsuc 0) c d) (only_inside (negsuc 0) c d r s h i l)
     ]
 
-pub recip : IsRow (λ a b c d. units c d) (λ a b c d. c) (λ a b c d. d) (λ x y. of_number mon.Recip y)
+pub recip : IsRow (λ a b c d. are_units c d) (λ a b c d. c) (λ a b c d. d) (λ x y. of_number mon.Recip y)
 recip = record {
   span = λ a b c d h k t. k;
   sound = λ a b c d x y h k p q t. record { number = y; is = recip_of y (units_out c d y q t); holds = q };

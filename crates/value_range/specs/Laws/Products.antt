@@ -1,26 +1,11 @@
 -- Products of integers: their order, and that over a box they lie between the four products of its ends.
-use Rattle.std.proofs.Common.{ℕ, ◌+◌, ◌*◌, ◌≤◌, ℤ, pos, negsuc, ◌*ℤ◌, ◌≤ℤ◌, arith}
+use Rattle.std.proofs.Common.{ℤ, pos, negsuc, ◌*ℤ◌, arith}
 use Rattle.std.proofs.Common.{subst}
 use Rattle.std.proofs.Math.IntN.{*ℤ_comm}
-use Rattle.std.proofs.Math.Nat.{mul-le-mul_right}
 use Rattle.std.proofs.lemmas.Int.{ints, clamps}
-use borrow.Author.Differences.{up, down}
+use Rattle.apl_base.proofs.Integers.{times_positive, times_negative}
 use Rattle.value_range.specs.Interval.{least_of, greatest_of}
 use Rattle.value_range.specs.Laws.Shown.{Holds, Inside}
-
--- a factor that is not negative keeps the order
-pub times_positive : (a b : ℤ) (n : ℕ) → a ≤ℤ b → (a *ℤ pos n) ≤ℤ (b *ℤ pos n)
-times_positive a b n h =
-    let s : up a + down b ≤ up b + down a = omega (arith, ints) in
-    let t : (up a + down b) * n ≤ (up b + down a) * n = mul-le-mul_right n s in
-    omega (arith, ints)
-
--- a negative factor turns it round
-pub times_negative : (a b : ℤ) (n : ℕ) → a ≤ℤ b → (b *ℤ negsuc n) ≤ℤ (a *ℤ negsuc n)
-times_negative a b n h =
-    let s : up a + down b ≤ up b + down a = omega (arith, ints) in
-    let t : (up a + down b) * (n + 1) ≤ (up b + down a) * (n + 1) = mul-le-mul_right (n + 1) s in
-    omega (arith, ints)
 
 -- where lo..hi holds the products at both ends, it holds those between
 pub along_left : (lo hi a b x y : ℤ) → Holds a b x → Holds lo hi (a *ℤ y) → Holds lo hi (b *ℤ y) → Holds lo hi (x *ℤ y)

@@ -1,5 +1,5 @@
 use Rattle.std.proofs.Common.{take}
-use Rattle.apl_read.specs.Refusals.{IsFirstIfAny}
+use Rattle.apl_model.specs.Refusal.{IsFirstIfAny}
 use Rattle.apl_defn.specs.PartRefusals.{OfSome, IsNested}
 use Rattle.apl_defn.proofs.forms.nested_lines.Given as goal
 

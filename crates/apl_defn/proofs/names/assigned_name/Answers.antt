@@ -1,5 +1,5 @@
 use Rattle.std.proofs.Common.{◌≡◌, List, length, ap, subst, arith}
-use Rattle.apl_read.specs.Refusals.{IsFirstIfAny}
+use Rattle.apl_model.specs.Refusal.{IsFirstIfAny}
 use Rattle.apl_model.specs.declared.tokens.Token.{Token}
 use Rattle.apl_defn.proofs.AssignedLemmas.{IsFirstAssigned, assigned_more, assigned_all, left_from}
 use Rattle.apl_defn.specs.Occurrences.{IsAssignedFirst}

@@ -1,6 +1,5 @@
 use Rattle.std.proofs.Common.{◌≡◌, ℕ, List, true, false, sym, subst, ◌∙◌}
-use Rattle.apl_model.specs.Refusal.{Occurrence}
-use Rattle.apl_read.specs.Refusals.{IsFirstIfAny}
+use Rattle.apl_model.specs.Refusal.{Occurrence, IsFirstIfAny}
 use Rattle.apl_defn.proofs.PlaceLemmas.{wrong_alike, right_first}
 use Rattle.apl_defn.specs.NameRules.{IsHeading}
 use Rattle.apl_defn.specs.Occurrences.{IsWrong, at_most_one}

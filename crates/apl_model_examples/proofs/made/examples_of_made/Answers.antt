@@ -34,10 +34,6 @@ pub returns-clause-more_than_the_greatest_length : goal.returns-clause-more_than
 unfolding digits
 returns-clause-more_than_the_greatest_length c = refl
 
-pub returns-clause-a_base_of_0_takes_all_that_is_left : goal.returns-clause-a_base_of_0_takes_all_that_is_left
-unfolding digits
-returns-clause-a_base_of_0_takes_all_that_is_left c = refl
-
 pub returns-clause-equal_elements_keep_their_order : goal.returns-clause-equal_elements_keep_their_order
 unfolding digits
 returns-clause-equal_elements_keep_their_order c = refl
@@ -53,3 +49,7 @@ returns-clause-bits_along_an_axis c = refl
 pub returns-clause-the_number_of_digits_in_one_base : goal.returns-clause-the_number_of_digits_in_one_base
 unfolding digits
 returns-clause-the_number_of_digits_in_one_base c = refl
+
+pub returns-clause-a_base_of_0_takes_all_that_is_left : goal.returns-clause-a_base_of_0_takes_all_that_is_left
+unfolding digits
+returns-clause-a_base_of_0_takes_all_that_is_left c = refl

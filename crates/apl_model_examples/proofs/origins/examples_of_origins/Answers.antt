@@ -21,3 +21,11 @@ returns-clause-the_origin_is_set_back c = refl
 pub returns-clause-the_origin_stays_0 : goal.returns-clause-the_origin_stays_0
 unfolding digits
 returns-clause-the_origin_stays_0 c = refl
+
+pub returns-clause-axes_and_writes_count_from_the_origin : goal.returns-clause-axes_and_writes_count_from_the_origin
+unfolding digits
+returns-clause-axes_and_writes_count_from_the_origin c = refl
+
+pub returns-clause-lines_count_from_1 : goal.returns-clause-lines_count_from_1
+unfolding digits
+returns-clause-lines_count_from_1 c = refl

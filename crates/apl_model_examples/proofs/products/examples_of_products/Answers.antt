@@ -42,6 +42,6 @@ pub returns-clause-sales_by_quarter : goal.returns-clause-sales_by_quarter
 unfolding digits
 returns-clause-sales_by_quarter c = refl
 
-pub returns-clause-an_axis_in_the_middle : goal.returns-clause-an_axis_in_the_middle
+pub returns-clause-axes_of_products : goal.returns-clause-axes_of_products
 unfolding digits
-returns-clause-an_axis_in_the_middle c = refl
+returns-clause-axes_of_products c = refl

@@ -38,6 +38,6 @@ pub returns-clause-a_write_to_an_unset_name : goal.returns-clause-a_write_to_an_
 unfolding digits
 returns-clause-a_write_to_an_unset_name c = refl
 
-pub returns-clause-positions_of_two_axes : goal.returns-clause-positions_of_two_axes
+pub returns-clause-positions_of_more_axes : goal.returns-clause-positions_of_more_axes
 unfolding digits
-returns-clause-positions_of_two_axes c = refl
+returns-clause-positions_of_more_axes c = refl

@@ -3,7 +3,7 @@ use Rattle.std.specs.Option.{option_map}
 use Rattle.std.proofs.lemmas.Result.{err_from_is_err_and}
 use Rattle.std.specs.Result.{IfErr}
 use Rattle.apl_read.proofs.StepLemmas.{too_long, near_refused}
-use Rattle.apl_read.specs.Answer.{IsRefusedAs}
+use Rattle.apl_model.specs.ReadFaults.{IsRefusedAs}
 use Rattle.apl_read.specs.Pieces.{pieces_from}
 use Rattle.apl_read.specs.Refusals.{first_fault, line_fault, refusal_of_fault}
 use Rattle.apl_read.proofs.columns.read_columns.Goals as goal

@@ -6,7 +6,7 @@ use Rattle.apl_model.specs.Characters.{is_blank}
 use Rattle.apl_model.specs.Tokens.{Piece, tokens_of_pieces}
 use Rattle.apl_read.proofs.StepLemmas.{at_piece}
 use Rattle.apl_read.specs.Pieces.{beginning_of, found_of, made_before, pieces_from}
-use Rattle.apl_read.specs.Answer.{IsRefusedAs}
+use Rattle.apl_model.specs.ReadFaults.{IsRefusedAs}
 use Rattle.apl_read.specs.Refusals.{first_fault, refusal_of_fault}
 use Rattle.apl_read.proofs.columns.step.Goals as goal
 

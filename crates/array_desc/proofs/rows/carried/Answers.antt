@@ -6,7 +6,7 @@ use mir.Val.{SFits, to_z, of_z}
 use mir.Syntax.{w128}
 use Rattle.array_desc.specs.Rows.{Carries}
 use Rattle.array_desc.proofs.Walks.{cell_is}
-use Rattle.array_desc.proofs.Indices.{length_of_index}
+use Rattle.apl_base.proofs.Sizes.{IsIndex-length}
 use Rattle.array_desc.proofs.CarryLemmas.{carry_begins, carry_round, carry_stops, carry_ends, carry_below}
 use Rattle.array_desc.proofs.rows.carried.Goals as goal
 
@@ -17,7 +17,7 @@ loop-axis-init c =
     carry_begins c.args.strides.now c.args.lengths.now c.args.index.now _ g c.requires.axes c.requires.index
 
 pub bounds-index-axis : goal.bounds-index-axis
-bounds-index-axis c = let l = length_of_index c.args.lengths.now c.args.index.now c.requires.index in let i = c.loop-axis.auto.index in omega (arith, l)
+bounds-index-axis c = let l = IsIndex-length c.args.lengths.now c.args.index.now c.requires.index in let i = c.loop-axis.auto.index in omega (arith, l)
 
 pub overflow_add-i : goal.overflow_add-i
 overflow_add-i c =
@@ -26,10 +26,10 @@ overflow_add-i c =
     omega (arith, h, t)
 
 pub bounds-index-axis-then-i-lengths : goal.bounds-index-axis-then-i-lengths
-bounds-index-axis-then-i-lengths c = let l = length_of_index c.args.lengths.now c.args.index.now c.requires.index in omega (arith, l)
+bounds-index-axis-then-i-lengths c = let l = IsIndex-length c.args.lengths.now c.args.index.now c.requires.index in omega (arith, l)
 
 pub bounds-index-axis-in-loop-axis : goal.bounds-index-axis-in-loop-axis
-bounds-index-axis-in-loop-axis c = let l = length_of_index c.args.lengths.now c.args.index.now c.requires.index in omega (arith, l)
+bounds-index-axis-in-loop-axis c = let l = IsIndex-length c.args.lengths.now c.args.index.now c.requires.index in omega (arith, l)
 
 pub returns-then-i-lengths : goal.returns-then-i-lengths
 returns-then-i-lengths c =

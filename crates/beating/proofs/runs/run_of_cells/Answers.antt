@@ -2,6 +2,7 @@ use Rattle.std.proofs.Common.{ℤ, to_z, of_z, ◌-ℤ◌, ap, ◌∙◌, arith}
 use mir.Syntax.{w128}
 use Rattle.beating.specs.Runs.{vector_cell}
 use Rattle.beating.proofs.RunLemmas.{run_of_one, vector_of, lies_after, number_is, difference_is, rising_start, rising_more, rising_broken, rising_end, same_difference, other_difference}
+use Rattle.beating.proofs.PositionLemmas.{cells_positions}
 use Rattle.beating.proofs.runs.run_of_cells.Goals as goal
 
 pub returns-then-n-eq1-clause-run : goal.returns-then-n-eq1-clause-run
@@ -45,3 +46,16 @@ pub returns-clause-run : goal.returns-clause-run
 returns-clause-run c =
     rising_end c.args.store.now c.loop-j.store c.args.owner c.args.desc.now _ _ _ c.size-n.result c.loop-j.j
     c.loop-j.invariant c.requires.vector c.size-n.ensures.value (omega arith) c.loop-j-test.false
+
+pub returns-then-n-eq1-clause-positions : goal.returns-then-n-eq1-clause-positions
+returns-then-n-eq1-clause-positions c =
+    cells_positions c.args.store.now c.args.owner c.args.desc.now _ c.counts-counts.ensures.store c.size-n.ensures.lawful c.requires.lies
+    (run_of_one _ (vector_cell c.args.store.now c.args.owner c.args.desc.now) _ c.size-n.result
+    (vector_of c.args.store.now c.args.owner c.args.desc.now c.size-n.result c.requires.vector c.size-n.ensures.value)
+    c.if-n-eq1.true (number_is c.cell_at-from.result c.cell_at-from.ensures.number ∙ c.cell_at-from.ensures.value))
+
+pub returns-clause-positions : goal.returns-clause-positions
+returns-clause-positions c =
+    cells_positions c.args.store.now c.args.owner c.args.desc.now _ c.counts-counts.ensures.store c.size-n.ensures.lawful c.requires.lies
+    (rising_end c.args.store.now c.loop-j.store c.args.owner c.args.desc.now _ _ _ c.size-n.result c.loop-j.j
+    c.loop-j.invariant c.requires.vector c.size-n.ensures.value (omega arith) c.loop-j-test.false)

@@ -2,7 +2,7 @@ use Rattle.std.proofs.Common.{subst, sym}
 use Rattle.apl_base.specs.Interval.{IsInterval}
 use Rattle.value_range.specs.declared.sides.Ranged.{Ranged}
 use Rattle.value_range.specs.Interval.{at_sides}
-use Rattle.value_range.specs.Sound.{IsSound2, IsSharper}
+use Rattle.value_range.specs.Sound.{IsSound2, IsSharpAt}
 use Rattle.value_range.proofs.rows.range_of.Goals as goal
 
 pub returns-clause-interval : goal.returns-clause-interval
@@ -17,5 +17,5 @@ returns-clause-sound g c =
 
 pub returns-clause-sharper : goal.returns-clause-sharper
 returns-clause-sharper g c =
-    λ p q h k i j. let P : Ranged → Type 0 = λ r. IsSharper r (at_sides g.R.RangeRow.CHARACTERS g.R.RangeRow.rule p.kind p.interval q.kind q.interval) in
-    subst P (sym c.at_sides.ensures) (g.met.R.RangeRow.sharper c.args.left c.args.right p q c.requires.left c.requires.right h k i j)
+    let P : Ranged → Type 0 = IsSharpAt (at_sides g.R.RangeRow.CHARACTERS g.R.RangeRow.rule) c.args.left c.args.right in
+    subst P (sym c.at_sides.ensures) (g.met.R.RangeRow.sharper c.args.left c.args.right c.requires.left c.requires.right)

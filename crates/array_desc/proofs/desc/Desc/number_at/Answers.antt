@@ -5,14 +5,14 @@ use mir.Val.{SFits}
 use mir.Syntax.{w128}
 use Rattle.apl_base.specs.Number.{IsNumber}
 use Rattle.array_desc.specs.Desc.{DescView, IsDesc, dot, number}
-use Rattle.array_desc.proofs.Indices.{length_of_index}
+use Rattle.apl_base.proofs.Sizes.{IsIndex-length}
 use Rattle.array_desc.proofs.Sums.{number_fits}
 use Rattle.array_desc.proofs.Walks.{cell_is}
 use Rattle.array_desc.proofs.desc.Desc.number_at.Goals as goal
 
 pub dot_from-requires : goal.dot_from-requires
 dot_from-requires c =
-    let l = length_of_index c.args.self.now.shape c.args.index.now c.requires in
+    let l = IsIndex-length c.args.self.now.shape c.args.index.now c.requires in
     let v = ap (λ (d : DescView). length d.shape) c.self.view_is in
     ap length c.as_slice.ensures ∙ c.self.invariant.0.strides ∙ v ∙ sym l
 

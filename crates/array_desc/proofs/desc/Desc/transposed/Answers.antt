@@ -6,7 +6,8 @@ use mir.Syntax.{w128}
 use Rattle.apl_base.specs.Selection.{least, lengths_at, upward}
 use Rattle.array_desc.specs.Desc.{DescView, IsDesc}
 use Rattle.array_desc.specs.Steps.{stride_at}
-use Rattle.array_desc.proofs.Transposition.{transpose-made, transposed_shape, few_result_axes}
+use Rattle.array_desc.proofs.Transposition.{transpose-made, few_result_axes}
+use Rattle.apl_base.proofs.Transposes.{transposed_shape}
 use Rattle.array_desc.proofs.Sums.{meets-makes}
 use Rattle.array_desc.proofs.desc.Desc.transposed.Goals as goal
 

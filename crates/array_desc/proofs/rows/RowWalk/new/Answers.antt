@@ -7,7 +7,7 @@ use Rattle.apl_base.specs.Array.{size_of, index_at}
 use Rattle.apl_base.proofs.Sizes.{IsIndex-index_at}
 use Rattle.array_desc.specs.Desc.{DescView, dot}
 use Rattle.array_desc.proofs.Walks.{cell_is}
-use Rattle.array_desc.proofs.Indices.{length_of_index}
+use Rattle.apl_base.proofs.Sizes.{IsIndex-length}
 use Rattle.array_desc.proofs.RowLemmas.{walk_begins, run_has_some}
 use Rattle.array_desc.proofs.rows.RowWalk.new.Goals as goal
 use Rattle.array_desc.proofs.rows.RowWalk.new.Goals.{After-as_slice-2, After-dot_from-start}
@@ -28,7 +28,7 @@ dot_from-start-requires c =
     let b = (goal.at.dot_from-start-requires c).After-as_slice-2 in
     let d = c.args.desc.now in
     let k = c.last_run-run.result.outer in
-    let l = length_of_index d.shape (index_at d.shape c.args.first) (IsIndex-index_at d.shape c.args.first (below b)) in
+    let l = IsIndex-length d.shape (index_at d.shape c.args.first) (IsIndex-index_at d.shape c.args.first (below b)) in
     ap (λ v. length (take k v)) (strides_are b) ∙ length-take k d.strides
     ∙ ap (min k) (c.size.ensures.lawful.strides ∙ sym l) ∙ sym (length-take k (index_at d.shape c.args.first)) ∙ ap length (sym (index_is b))
 

@@ -1,0 +1,4 @@
+pub mod CodeLemmas
+pub mod Emitting
+pub mod LawfulLemmas
+pub mod ProgramLemmas

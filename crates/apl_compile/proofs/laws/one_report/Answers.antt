@@ -1,0 +1,8 @@
+use Rattle.apl_compile.proofs.ProgramLemmas.{reports_of_outline, one_report}
+use Rattle.apl_compile.proofs.laws.one_report.Goals as goal
+
+pub returns-clause-outline : goal.returns-clause-outline
+returns-clause-outline c = reports_of_outline
+
+pub returns-clause-same : goal.returns-clause-same
+returns-clause-same c = one_report

@@ -1,0 +1,4 @@
+pub mod Joins
+pub mod Selections
+pub mod Subscripts
+pub mod Extensions
