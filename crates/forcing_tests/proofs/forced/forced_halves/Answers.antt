@@ -1,0 +1,18 @@
+use Rattle.std.proofs.Common.{◌∙◌, arith}
+use Rattle.e_machine.proofs.LoneLeafLemmas.{ForSome-functions}
+use Rattle.forcing_tests.proofs.forced.forced_halves.Goals as goal
+
+pub halves_and_parts-requires-clause-lawful : goal.halves_and_parts-requires-clause-lawful
+halves_and_parts-requires-clause-lawful c = c.in_ok-vector.ensures.lawful
+
+pub halves_and_parts-requires-clause-four : goal.halves_and_parts-requires-clause-four
+halves_and_parts-requires-clause-four c = c.in_ok-vector.ensures.shape ∙ c.in_ok-four.ensures.ok
+
+pub force-made-requires-clause-lawful : goal.force-made-requires-clause-lawful
+force-made-requires-clause-lawful c = c.in_ok-s.ensures.lawful
+
+pub force-made-requires-clause-holders : goal.force-made-requires-clause-holders
+force-made-requires-clause-holders c = ForSome-functions _ c.in_ok-s.s.nodes (omega (arith, c.in_ok-s.ensures.functions))
+
+pub listed-requires : goal.listed-requires
+listed-requires c = c.in-Ok.ensures.forced.stands.lawful
