@@ -1,5 +1,5 @@
 -- The look-up of a name among headings, one heading after the other.
-use Rattle.std.proofs.Common.{◌≡◌, ℕ, ◌+◌, ◌<◌, Bool, true, false, List, ◌∷◌, length, get_or, drop, Some, refl, sym, ap, ◌∙◌, cond}
+use Rattle.std.proofs.Common.{◌≡◌, ℕ, ◌+◌, ◌<◌, true, false, List, ◌∷◌, length, get_or, drop, Some, sym, ap, ◌∙◌, cond}
 use Rattle.std.proofs.lemmas.List.{at_drop_more}
 use Rattle.apl_base.proofs.Booleans.{by_false}
 use Rattle.apl_model.specs.Environment.{is_same_name}

@@ -1,19 +1,16 @@
 -- The tokens of a line that is read have lawful words.
 use Rattle.std.proofs.Common.{◌≡◌, ℕ, zero, suc, ◌+◌, ◌<◌, ◌≤◌, ◌^◌, ◌==◌, Bool, true, false, cond, IsTrue, List, [], ◌∷◌, length, take, Option, None, Some, ℤ, pos, refl, ap, subst, arith, one-add}
 use Rattle.std.proofs.lemmas.Bool.{and_parts, and_from}
-use Rattle.std.proofs.lemmas.Float.{T_from_true}
 use Rattle.std.proofs.lemmas.Str.{scalars-chars}
 use Rattle.std.specs.Char.{IsScalar}
 use Rattle.std.specs.List.{AllByRecursion, prefix_len}
 use Rattle.std.specs.Option.{unwrap_or, option_map}
-use Rattle.std.specs.Prelude.{neg_ℤ, int_le}
+use Rattle.std.specs.Prelude.{neg_ℤ}
 use Rattle.std.specs.Str.{chars, IsUtf8}
-use lib.Signed.{le_z_yes}
 use lib.Utf8.{scalar, scalars}
 use Rattle.apl_base.proofs.Numbers.{is_number-true}
 use Rattle.apl_base.specs.Number.{IsNumber, is_number, IsCell}
 use Rattle.apl_base.specs.declared.cells.Kind.TheVariants as kind
-use Rattle.apl_base.specs.declared.cells.TheConstants.{M}
 use Rattle.apl_base.specs.declared.faults.Cause.{Cause}
 use Rattle.apl_model.specs.Characters.{code, is_blank, is_letter, is_name_part, begins_number, is_number_part, is_glyph, read_as, all_pass, is_name, are_digits, decimal_after, lawful_number, number_of}
 use Rattle.apl_model.specs.Tokens.{Found, number, text, name, glyph, fault, Beginning, Quoted, with_character, quoted, name_at, number_at, text_at, beginning, Piece, pieces_after, pieces, number_before, tokens_of_pieces, tokens}
