@@ -101,7 +101,7 @@ alone : (a b : ℕ) (v : Found) (ps : List Piece) (w : Word) → a < b → InOrd
     PiecesOf (one a b v ∷ ps) (record { from = a; past = b; word = w })
 alone a b v ps w l i e = record { own = one a b v ∷ []; front = (refl, omega arith, nothing_before b ps i); starts = refl; ends = l; token = e }
 
-same_head : (t u : Token) (ts us : List Token) → t ∷ ts ≡ u ∷ us → t ≡ u
+pub same_head : (t u : Token) (ts us : List Token) → t ∷ ts ≡ u ∷ us → t ≡ u
 same_head t u ts us e = cc
 
 none_some : {A : Type 0} (t : Token) (us : List Token) → [] ≡ t ∷ us → A

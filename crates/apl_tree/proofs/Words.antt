@@ -12,7 +12,8 @@ use Rattle.apl_base.proofs.Numbers.{is_number-true}
 use Rattle.apl_base.specs.Number.{IsNumber, is_number, IsCell}
 use Rattle.apl_base.specs.declared.cells.Kind.TheVariants as kind
 use Rattle.apl_base.specs.declared.faults.Cause.{Cause}
-use Rattle.apl_model.specs.Characters.{code, is_blank, is_letter, is_name_part, begins_number, is_number_part, is_glyph, read_as, all_pass, is_name, are_digits, decimal_after, lawful_number, number_of}
+use Rattle.apl_base.specs.Scalar.{in_range}
+use Rattle.apl_model.specs.Characters.{code, is_blank, is_letter, is_name_part, begins_number, is_number_part, is_glyph, read_as, all_pass, is_name, are_digits, decimal_after, number_of}
 use Rattle.apl_model.specs.Tokens.{Found, number, text, name, glyph, fault, Beginning, Quoted, with_character, quoted, name_at, number_at, text_at, beginning, Piece, pieces_after, pieces, number_before, tokens_of_pieces, tokens}
 use Rattle.apl_model.specs.declared.tokens.Token.{Token}
 use Rattle.apl_model.specs.declared.tokens.Word.{Word}
@@ -45,15 +46,15 @@ abbrev IfNumber : Option ℤ → Type 0
 IfNumber None = Unit {0}
 IfNumber (Some z) = IsNumber z
 
-lawful_holds : (z : ℤ) → IfNumber (lawful_number z)
+lawful_holds : (z : ℤ) → IfNumber (in_range z)
 lawful_holds z = if_holds IfNumber (is_number z) (Some z) None (is_number-true z) tt
 
 number_of_holds : (w : List ℕ) → IfNumber (number_of w)
 number_of_holds [] = tt
 number_of_holds (c ∷ cs) =
-    if_holds IfNumber (c == code "¯") (cond (are_digits cs) (lawful_number (neg_ℤ (pos (decimal_after 0 cs)))) None) (cond (are_digits (c ∷ cs)) (lawful_number (pos (decimal_after 0 (c ∷ cs)))) None)
-    (λ e. if_holds IfNumber (are_digits cs) (lawful_number (neg_ℤ (pos (decimal_after 0 cs)))) None (λ f. lawful_holds (neg_ℤ (pos (decimal_after 0 cs)))) tt)
-    (if_holds IfNumber (are_digits (c ∷ cs)) (lawful_number (pos (decimal_after 0 (c ∷ cs)))) None (λ f. lawful_holds (pos (decimal_after 0 (c ∷ cs)))) tt)
+    if_holds IfNumber (c == code "¯") (cond (are_digits cs) (in_range (neg_ℤ (pos (decimal_after 0 cs)))) None) (cond (are_digits (c ∷ cs)) (in_range (pos (decimal_after 0 (c ∷ cs)))) None)
+    (λ e. if_holds IfNumber (are_digits cs) (in_range (neg_ℤ (pos (decimal_after 0 cs)))) None (λ f. lawful_holds (neg_ℤ (pos (decimal_after 0 cs)))) tt)
+    (if_holds IfNumber (are_digits (c ∷ cs)) (in_range (pos (decimal_after 0 (c ∷ cs)))) None (λ f. lawful_holds (pos (decimal_after 0 (c ∷ cs)))) tt)
 
 abbrev IsQuotedIn : ℕ → Option Quoted → Type 0
 IsQuotedIn n None = Unit {0}
