@@ -9,7 +9,8 @@ use apl_model::Classes;
 pub(crate) trait NameClasses {
     ghost headings: { Self → List Heading };
 
-    /// How many arguments the function of this name has, or none where the name heads no definition.
+    /// How many arguments the function of this name has, or none where the name heads no
+    /// definition.
     fn arguments(&self, name: &Name) -> Option<u8>
         ensures { result ≡ grammar.arguments_of (headings self.now) name.now };
 }

@@ -37,8 +37,8 @@ impl Lookup {
         Ok(Lookup { classes, by_text })
     }
 
-    /// How many arguments the function of this name has, or none where the name heads no definition. It takes the time
-    /// of one look-up in an ordered map.
+    /// How many arguments the function of this name has, or none where the name heads no
+    /// definition. It takes the time of one look-up in an ordered map.
     pub fn arguments(&self, name: &Name) -> Option<u8>
         ensures { result ≡ grammar.arguments_of self.now name.now }
     {
