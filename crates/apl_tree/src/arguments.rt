@@ -1,3 +1,5 @@
+//! How many arguments the function of a name has.
+
 ghost use Rattle.std.specs.Prelude.{◌≡◌, List};
 ghost use Rattle.apl_model.specs.Grammar as grammar;
 ghost use Rattle.apl_model.specs.declared.tokens.Heading.{Heading};
@@ -18,6 +20,7 @@ pub(crate) trait NameClasses {
 impl NameClasses for Classes {
     ghost headings = { λ c. c.headings };
 
+    // One heading after the other.
     fn arguments(&self, name: &Name) -> Option<u8> {
         arguments_of(self, name)
     }

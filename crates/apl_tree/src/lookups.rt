@@ -1,3 +1,5 @@
+//! Classes of names prepared for quick look-ups.
+
 ghost use Rattle.std.specs.Prelude.{◌≡◌, IfOk};
 ghost use Rattle.apl_model.specs.Grammar as grammar;
 ghost use Rattle.apl_tree.specs.Prepared.{Answers};
@@ -49,6 +51,7 @@ impl Lookup {
 impl NameClasses for Lookup {
     ghost headings = { λ l. l };
 
+    // One look-up in the map.
     fn arguments(&self, name: &Name) -> Option<u8> {
         Lookup::arguments(self, name)
     }

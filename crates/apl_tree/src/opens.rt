@@ -1,3 +1,4 @@
+//! What is open while a statement is read: forms that wait for their right argument, and brackets.
 #![tactic(auto, using(crate::proofs::Opened::opened))]
 
 ghost use Rattle.std.specs.Prelude.{◌≡◌, IfOk};

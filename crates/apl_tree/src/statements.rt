@@ -1,3 +1,5 @@
+//! The statement that the tokens of a line are, or its refusal.
+
 ghost use Rattle.std.specs.Prelude.{◌≡◌, ◌≤◌, length, drop, IfOk};
 ghost use Rattle.apl_model.proofs.Machine as machine;
 ghost use Rattle.apl_model.specs.Grammar.{IsStatement};

@@ -1,3 +1,4 @@
+//! Forms that wait for their right argument, and what takes an axis.
 #![tactic(auto, using(apl_model::proofs::Bridge::bridges))]
 
 ghost use Rattle.std.specs.Prelude.{◌≡◌, IfOk};
