@@ -20,7 +20,7 @@ use Rattle.apl_model.specs.declared.tokens.Word.TheVariants as word
 use Rattle.apl_tree.proofs.SortFacts.{IsWord, AreWords}
 use Rattle.apl_tree.proofs.SplitTokens.{IsNumbers}
 use Rattle.apl_defn.proofs.PlainMarks.{names_more, ArePlain, plain_names, spells_by_words}
-use Rattle.apl_defn.proofs.Readers.{run, behind_first, read_all, GoesOn, runs_on, some_is, none_is, Ends, Completes, by_nothing, by_name, Reads}
+use Rattle.apl_defn.proofs.Readers.{run, behind_first, read_all, GoesBy, runs_on, some_is, none_is, Ends, Completes, by_nothing, by_name, Reads}
 use Rattle.apl_defn.specs.CommandSteps.{with_origin, takes_name, takes_numbers, takes, finished}
 use Rattle.apl_defn.specs.declared.commands.CommandSoFar.{CommandSoFar}
 use Rattle.apl_defn.specs.declared.commands.CommandSoFar.TheVariants as so_far
@@ -64,7 +64,7 @@ IsSoFar so_far.Origin = Unit {0}
 
 -- by this word the reader goes on from x to y
 abbrev Goes : CommandSoFar → Word → CommandSoFar → Type 0
-Goes x w y = GoesOn shown IsSoFar x (w ∷ []) y
+Goes = GoesBy shown IsSoFar
 
 -- ---- One word more ----
 

@@ -4,7 +4,7 @@ use Rattle.std.specs.Prelude.{slice_get, length, if◌then◌else◌}
 use Rattle.std.specs.List.{IsAmong}
 use Rattle.apl_base.specs.declared.faults.Cause.TheVariants as cause
 use Rattle.apl_base.specs.declared.faults.Refusal.{Refusal}
-use Rattle.apl_model.proofs.Accepted.{among_here, among_there, among_cases, among_none, no_stop, part_from}
+use Rattle.apl_model.proofs.Accepted.{among_here, among_there, among_cases, among_none, among_first, no_stop, part_from}
 use Rattle.apl_model.proofs.Rows.{one_stop, before_after}
 use Rattle.apl_model.proofs.Unique.{one_header}
 use Rattle.apl_model.specs.Refusal.{refusal, first_line, StopsAt, Heads, order, IsFirstIfAny}
@@ -30,10 +30,6 @@ HaveSame names ps = (n : List ℕ) → IsAmong names n ↔ Heads ps n
 no_heads : (n : List ℕ) → Heads [] n → ⊥
 no_heads n h = among_none (defined h.first h.body h.is_defined.last) h.is_defined.among
 
-append_among : {A : Type 0} (xs ys : List A) (x : A) → IsAmong xs x → IsAmong (xs ++ ys) x
-append_among [] ys x m = absurd (among_none x m)
-append_among (z ∷ xs) ys x m = elim (among_cases xs z x m) [ inl e ↦ among_here (xs ++ ys) z x e | inr k ↦ among_there (xs ++ ys) z x (append_among xs ys x k) ]
-
 last_among : {A : Type 0} (xs : List A) (x : A) → IsAmong (xs ++ (x ∷ [])) x
 last_among [] x = among_here [] x x refl
 last_among (z ∷ xs) x = among_there (xs ++ (x ∷ [])) z x (last_among xs x)
@@ -51,7 +47,7 @@ more_parts ps p n h = record {
   first = h.first;
   body = h.body;
   header = h.header;
-  is_defined = record { last = h.is_defined.last; among = append_among ps (p ∷ []) (defined h.first h.body h.is_defined.last) h.is_defined.among; head = h.is_defined.head };
+  is_defined = record { last = h.is_defined.last; among = among_first ps (p ∷ []) (defined h.first h.body h.is_defined.last) h.is_defined.among; head = h.is_defined.head };
   same = h.same;
 }
 

@@ -17,7 +17,7 @@ use Rattle.apl_tree.proofs.SortFacts.{IsWord, AreWords}
 use Rattle.apl_tree.proofs.SplitTokens.{IsNumbers}
 use Rattle.apl_defn.proofs.LineWords.{glyph_is}
 use Rattle.apl_defn.proofs.PlainMarks.{names_more, words-append, ArePlain, plain-append, plain_locals, plain_argument, plain_result, spells_by_words}
-use Rattle.apl_defn.proofs.Readers.{run, behind_first, read_all, GoesOn, runs_on, some_is, none_is, Ends, Completes, by_nothing, by_name, Reads}
+use Rattle.apl_defn.proofs.Readers.{run, behind_first, read_all, GoesBy, runs_on, some_is, none_is, Ends, Completes, by_nothing, by_name, Reads}
 use Rattle.apl_defn.specs.HeaderSteps.{named, with_argument, with_local, as_result, takes_name, takes_arrow, takes_semicolon, takes, finished}
 use Rattle.apl_defn.specs.declared.headers.HeaderSoFar.{HeaderSoFar}
 use Rattle.apl_defn.specs.declared.headers.HeaderSoFar.TheVariants as so_far
@@ -56,7 +56,7 @@ IsSoFar (so_far.Local h) = IsHeader h
 
 -- by this word the reader goes on from x to y
 abbrev Goes : HeaderSoFar → Word → HeaderSoFar → Type 0
-Goes x w y = GoesOn shown IsSoFar x (w ∷ []) y
+Goes = GoesBy shown IsSoFar
 
 false_true : false ≡ true → ⊥
 false_true e = cc
@@ -191,8 +191,7 @@ locals_run f z x y ks (l ∷ ls) =
     ∙ ap (λ v. Some (so_far.Local (head f z x y v))) (append_assoc ks (l ∷ []) ls)
 
 -- and over those behind a header without locals, and is at an end then
-ends_bare : (f : List ℕ) (z x y : Option (List ℕ)) (ls : List (List ℕ)) →
-    Ends takes finished (so_far.Named (head f z x y [])) (words_of (local_marks ls))
+ends_bare : (f : List ℕ) (z x y : Option (List ℕ)) (ls : List (List ℕ)) → Ends takes finished (so_far.Named (head f z x y [])) (words_of (local_marks ls))
 ends_bare f z x y [] = let h : Header = head f z x y [] in record { last = so_far.Named h; answer = h; runs = refl; ends = refl }
 ends_bare f z x y (l ∷ ls) =
     let h : Header = head f z x y ((l ∷ []) ++ ls) in

@@ -1,10 +1,10 @@
 -- The refusals of forms come before those of uses, so the first refusal of a script is found in two passes.
 use Rattle.std.proofs.Common.{◌≡◌, ℕ, List, inl, inr, refl, ap, subst, arith}
 use Rattle.std.specs.List.{AllZip}
-use Rattle.apl_base.specs.declared.faults.Cause.{Cause}
 use Rattle.apl_base.specs.declared.faults.Cause.TheVariants as cause
 use Rattle.apl_base.specs.declared.faults.Refusal.{Refusal}
 use Rattle.apl_model.proofs.Accepted.{same_classes}
+use Rattle.apl_model.proofs.Rows.{phase_is}
 use Rattle.apl_model.specs.Refusal.{refusal, AreClasses, IsNameClass, assigned, erased, declared, IsDeep, opened, IsGrammarRefusal, outside_definitions, in_a_body, IsLineRefusal, header, double_name, open_definition, name_class, deep, grammar, phase, order, IsNotAfter, IsFirst}
 use Rattle.apl_model.specs.Script.{Part, alone, defined, parts, IsItem, IsScript}
 use Rattle.apl_model.specs.Tree.{Item}
@@ -12,9 +12,6 @@ use Rattle.apl_model.specs.declared.tokens.Heading.{Heading}
 use Rattle.apl_model.specs.declared.tokens.Line.{Line}
 use Rattle.apl_defn.proofs.PhaseLemmas.{form_is, header_form, double_form, open_form, use_is, class_use, deep_use, grammar_use}
 use Rattle.apl_defn.specs.PartRefusals.{OfSome, AfterOthers, IsFormRefusal, IsUseRefusal}
-
-phase_is : (r : Refusal) (c : Cause) (l k : ℕ) → r ≡ refusal c l k → phase r.cause ≡ phase c
-phase_is r c l k e = ap (λ (v : Refusal). phase v.cause) e
 
 -- a part is refused for its form in the second phase
 form_phase : (before : List Part) (p : Part) (r : Refusal) → IsFormRefusal before p r → phase r.cause ≡ 2

@@ -1,10 +1,10 @@
 -- How the parts of a script come one after another.
-use Rattle.std.proofs.Common.{◌≡◌, ℕ, zero, suc, ◌+◌, ◌-◌, ◌<◌, ◌≤◌, Bool, true, false, not, cond, nat_lt, List, [], ◌∷◌, length, take, drop, get_or, None, Some, refl, sym, ap, ◌∙◌, arith}
+use Rattle.std.proofs.Common.{◌≡◌, ℕ, zero, suc, ◌+◌, ◌-◌, ◌<◌, ◌≤◌, Bool, true, false, not, cond, List, [], ◌∷◌, length, take, drop, get_or, None, Some, refl, sym, ap, ◌∙◌, arith}
 use Rattle.std.specs.List.{position, position_or_len}
-use Rattle.std.proofs.lemmas.Bool.{ltb-true, ltb-false}
 use Rattle.std.proofs.lemmas.Grind.{common_steps}
 use Rattle.apl_model.specs.Script.{opens, closes, is_empty, Part, alone, defined, Inside, parts, inside}
 use Rattle.apl_model.specs.declared.tokens.Line.{Line}
+use Rattle.apl_read.proofs.LineLemmas.{place-found, place-absent}
 
 abbrev closing : Line → Bool
 closing l = closes l.tokens
@@ -40,20 +40,6 @@ closed l ls c = elim c as (λ _. Inside) [
 abbrev place : Line → List Line → Bool → ℕ
 place l ls c = cond (not c) (1 + position_or_len closing ls) 0
 
--- a place that was found is the first one, and it is one
-found_place : (n l at : ℕ) → Some at ≡ cond (nat_lt n l) (Some n) None → (at ≡ n) × (n < l)
-found_place n l at h = elim (nat_lt n l) as (λ t. (nat_lt n l ≡ t) → Some at ≡ cond t (Some n) None → (at ≡ n) × (n < l)) [
-  | true ↦ λ lt e. (let same : at ≡ n = cc in same, ltb-true n l lt)
-  | false ↦ λ _ e. cc
-] refl h
-
--- where none was found, the first one would be at the end
-absent_place : (n l : ℕ) → None ≡ cond (nat_lt n l) (Some n) None → l ≤ n
-absent_place n l h = elim (nat_lt n l) as (λ t. (nat_lt n l ≡ t) → None ≡ cond t (Some n) None → l ≤ n) [
-  | true ↦ λ _ e. absurd (cc)
-  | false ↦ λ ge e. ltb-false n l ge
-] refl h
-
 -- where none of the lines closes a definition, they are all its body
 pub inside-open : (ls : List Line) → length ls ≤ position_or_len closing ls → inside ls ≡ record { body = ls; last = None; after = [] }
 inside-open [] h = refl
@@ -83,7 +69,7 @@ pub parts-closed : (l : Line) (ls : List Line) (at : ℕ) (m : Line) → is_empt
     Some at ≡ position closing ls → m ≡ get_or ls at m →
     parts (l ∷ ls) ≡ defined l (take at ls) (Some m) ∷ parts (take (length ls - (at + 1)) (drop (at + 1) ls))
 parts-closed l ls at m e o p i =
-    let found = found_place (position_or_len closing ls) (length ls) at p in
+    let found = place-found (position_or_len closing ls) (length ls) at p in
     let rest : take (length ls - (at + 1)) (drop (at + 1) ls) ≡ drop (at + 1) ls = grind (arith, common_steps) in
     parts-defined l ls e o ∙ ap (λ (v : Inside). defined l v.body v.last ∷ v.after) (inside-at ls at m found.0 (rw found.0 found.1) i) ∙
     ap (λ v. defined l (take at ls) (Some m) ∷ parts v) (sym rest)
@@ -92,4 +78,4 @@ parts-closed l ls at m e o p i =
 pub parts-open : (l : Line) (ls : List Line) → is_empty l.tokens ≡ false → opens l.tokens ≡ true → None ≡ position closing ls →
     parts (l ∷ ls) ≡ defined l ls None ∷ []
 parts-open l ls e o p =
-    parts-defined l ls e o ∙ ap (λ (v : Inside). defined l v.body v.last ∷ v.after) (inside-open ls (absent_place (position_or_len closing ls) (length ls) p))
+    parts-defined l ls e o ∙ ap (λ (v : Inside). defined l v.body v.last ∷ v.after) (inside-open ls (place-absent (position_or_len closing ls) (length ls) p))

@@ -7,7 +7,8 @@ use Rattle.std.proofs.lemmas.List.{take_more, take_all}
 use lib.Pointwise.{bytes_decides}
 use Rattle.apl_base.specs.declared.faults.Refusal.{Refusal}
 use Rattle.apl_model.proofs.Accepted.{among_here, among_there, among_cases, among_none}
-use Rattle.apl_model.proofs.Rows.{before_after}
+use Rattle.apl_model.proofs.AcceptedItems.{more_heads}
+use Rattle.apl_model.proofs.Rows.{before_after, alone_defined}
 use Rattle.apl_model.proofs.Unique.{one_header}
 use Rattle.apl_model.specs.Environment.{is_same_name}
 use Rattle.apl_model.specs.Grammar.{arguments_of}
@@ -120,9 +121,6 @@ one_classes (defined top body last ∷ ps) (h ∷ hs) (k ∷ ks) c d =
     let g = one_classes ps hs ks c.1 d.1 in
     λ i. f i ∷ g i
 
-defined_alone : {A : Type 0} (top : Line) (body : List Line) (last : Option Line) (l : Line) → defined top body last ≡ alone l → A
-defined_alone top body last l e = cc
-
 -- with one heading more, a name that headed still heads
 still_some : (b : Bool) (k : ℕ) (o : Option ℕ) → IsSome o → IsSome (if b then Some k else o)
 still_some true k o h = refl
@@ -132,7 +130,7 @@ still_some false k o h = h
 pub heads_known : (ps : List Part) (hs : List Heading) (n : List ℕ) → AreClasses ps hs → Heads ps n → IsHeading hs n
 heads_known [] hs n c h = absurd (among_none (defined h.first h.body h.is_defined.last) h.is_defined.among)
 heads_known (alone l ∷ ps) hs n c h = elim (among_cases ps (alone l) (defined h.first h.body h.is_defined.last) h.is_defined.among) [
-  | inl e ↦ defined_alone h.first h.body h.is_defined.last l e
+  | inl e ↦ alone_defined h.first h.body h.is_defined.last l e
   | inr k ↦ heads_known ps hs n c (record { first = h.first; body = h.body; header = h.header; is_defined = record { last = h.is_defined.last; among = k; head = h.is_defined.head }; same = h.same })
 ]
 heads_known (defined top body last ∷ ps) [] n c h = absurd c
@@ -149,15 +147,6 @@ heads_known (defined top body last ∷ ps) (k ∷ hs) n c h =
       | inr m ↦ still_some (is_same_name k.name n) k.arguments (arguments_of hs n)
           (heads_known ps hs n c.1 (record { first = h.first; body = h.body; header = h.header; is_defined = record { last = d.last; among = m; head = d.head }; same = h.same }))
     ]
-
-more_heads : (p : Part) (ps : List Part) (n : List ℕ) → Heads ps n → Heads (p ∷ ps) n
-more_heads p ps n h = record {
-  first = h.first;
-  body = h.body;
-  header = h.header;
-  is_defined = record { last = h.is_defined.last; among = among_there ps p (defined h.first h.body h.is_defined.last) h.is_defined.among; head = h.is_defined.head };
-  same = h.same;
-}
 
 -- and a heading's name heads one of the parts
 pub heading_known : (ps : List Part) (hs : List Heading) (n : List ℕ) → AreClasses ps hs → IsHeading hs n → Heads ps n

@@ -5,7 +5,7 @@ use Rattle.std.specs.List.{IsAmong}
 use Rattle.std.proofs.lemmas.List.{take_more, take_all}
 use Rattle.apl_base.specs.declared.faults.Cause.TheVariants as cause
 use Rattle.apl_base.specs.declared.faults.Refusal.{Refusal}
-use Rattle.apl_model.proofs.Accepted.{among_here, among_there, among_cases, among_none}
+use Rattle.apl_model.proofs.Accepted.{among_here, among_there, among_cases, among_none, among_first}
 use Rattle.apl_model.specs.Refusal.{refusal, Occurrence, names_in, label_in, labels_in, declared_in, erased_in, IsFirstIfAny}
 use Rattle.apl_model.specs.declared.tokens.Heading.{Heading}
 use Rattle.apl_model.specs.declared.tokens.Line.{Line}
@@ -20,13 +20,6 @@ use Rattle.apl_model.specs.Script.{is_glyph_token, is_name_token}
 use Rattle.apl_defn.specs.Occurrences.{IsAssignedFirst}
 
 -- ---- Members of two lists ----
-
-pub among_first : {A : Type 0} (xs ys : List A) (v : A) → IsAmong xs v → IsAmong (xs ++ ys) v
-among_first [] ys v m = absurd (among_none v m)
-among_first (x ∷ xs) ys v m = elim (among_cases xs x v m) [
-  | inl e ↦ among_here (xs ++ ys) x v e
-  | inr k ↦ among_there (xs ++ ys) x v (among_first xs ys v k)
-]
 
 pub among_second : {A : Type 0} (xs ys : List A) (v : A) → IsAmong ys v → IsAmong (xs ++ ys) v
 among_second [] ys v m = m

@@ -85,6 +85,10 @@ pub record GoesOn {S : Type 0} (shown : S → List Word) (IsSoFar : S → Type 0
   pub shows : shown x ++ ws ≡ shown y
   pub lawful : IsSoFar y
 
+-- and by one word
+abbrev pub GoesBy : {S : Type 0} (shown : S → List Word) (IsSoFar : S → Type 0) → S → Word → S → Type 0
+GoesBy shown IsSoFar x w y = GoesOn shown IsSoFar x (w ∷ []) y
+
 module _ {S : Type 0} (takes : S → Word → Option S) (shown : S → List Word) (IsSoFar : S → Type 0)
     (goes_on : (x : S) (w : Word) (y : S) → IsWord w → IsSoFar x → takes x w ≡ Some y → GoesOn shown IsSoFar x (w ∷ []) y) where
   -- a reader that goes on so by each word goes on so by many

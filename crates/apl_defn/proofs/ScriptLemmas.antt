@@ -6,7 +6,7 @@ use Rattle.std.specs.Str.Lossy.{utf8_valid_len}
 use Rattle.apl_base.specs.declared.faults.Cause.TheVariants as cause
 use Rattle.apl_base.specs.declared.faults.Refusal.{Refusal}
 use Rattle.apl_base.specs.declared.faults.TheConstants.{MOST_BYTES}
-use Rattle.apl_model.proofs.Accepted.{part_from}
+use Rattle.apl_model.proofs.Accepted.{part_from, opens_two}
 use Rattle.apl_model.specs.Mirror.{item_of}
 use Rattle.apl_model.proofs.Rows.{first_in_reading, first_in_lines}
 use Rattle.apl_model.specs.Lines.{lines_of}
@@ -39,11 +39,6 @@ classes_are (alone l ∷ ps) hs a = classes_are ps hs a
 classes_are (defined top body last ∷ ps) [] a = absurd a
 classes_are (defined top body last ∷ ps) (h ∷ hs) a = ((h, a.0, refl), classes_are ps hs a.1)
 
-opened : (ts : List Token) → opens ts ≡ true → (t : Token) × (us : List Token) × (ts ≡ t ∷ us)
-opened [] e = cc
-opened (t ∷ []) e = cc
-opened (t ∷ u ∷ ts) e = (t, u ∷ ts, refl)
-
 pub is_none : (o : Option Refusal) → ((r : Refusal) → o ≡ Some r → ⊥) → o ≡ None
 is_none None f = refl
 is_none (Some r) f = absurd (f r refl)
@@ -60,7 +55,7 @@ module _ (ls : List Line) (f : Forms) (forms : AreForms (parts ls) f) where
     -- without one each definition is closed
     pub all_closed : (first : Line) (body : List Line) → IsAmong (parts ls) (defined first body None) → ⊥
     all_closed first body m =
-        let t = opened first.tokens (part_from ls (defined first body None) m).1 in
+        let t = opens_two first.tokens (part_from ls (defined first body None) m).1 in
         no_form (refusal cause.OpenDefinition first.number t.0.from) (open_form ls (refusal cause.OpenDefinition first.number t.0.from) (never_closed first body t.0 t.1 m t.2 refl))
 
     module _ (u : Uses) (uses : AreUses (map heading_of f.headers.items) (parts ls) u) where

@@ -1,3 +1,4 @@
+//! The classes that the headers of a script give its functions.
 ghost use Rattle.std.specs.Prelude.{◌≡◌, IfOk, map};
 ghost use Rattle.apl_model.specs.Script.{heading_of};
 

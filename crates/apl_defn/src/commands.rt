@@ -1,3 +1,4 @@
+//! Commands: the lines outside definitions that begin with `)`.
 ghost use Rattle.std.specs.Prelude.{◌≡◌, ◌∷◌, List, true, IfOk};
 ghost use Rattle.apl_model.specs.Refusal as refusal;
 ghost use Rattle.apl_model.specs.Script.{is_glyph_token, IsCommandLine};
@@ -97,7 +98,8 @@ fn named(alloc: Global, name: &Name) -> Option<CommandSoFar>
 /// The command that a line outside definitions is which begins with `)`, or the column where it stops being one.
 pub(crate) fn read_command(alloc: Global, line: &Line) -> Result<Command, LineFault>
     requires read { IsReadLine line.now }
-    requires begins { (t : Token) × (ts : List Token) × (line.now.tokens ≡ t ∷ ts) × (is_glyph_token ")" t ≡ true) }
+    requires begins { (t : Token) × (ts : List Token) × (line.now.tokens ≡ t ∷ ts)
+        × (is_glyph_token ")" t ≡ true) }
     ensures command { IfOk result (IsCommandLine line.now line.now.number) }
     ensures stopped { IfStopped result (λ column. (hs : List Heading)
         → refusal.StopsAt refusal.outside hs line.now.number line.now.tokens column) }

@@ -1,3 +1,4 @@
+//! Lines again, with their tokens, words and texts.
 ghost use Rattle.std.specs.Prelude.{◌≡◌, IfOk};
 
 use apl_base::NoMemory;

@@ -1,3 +1,4 @@
+//! Which of two refusals is the earlier one.
 ghost use Rattle.std.specs.Prelude.{◌≡◌};
 ghost use Rattle.apl_model.specs.Refusal.{order, phase, rank};
 ghost use Rattle.apl_defn.specs.Earliest.{earlier, is_not_after};

@@ -1,3 +1,4 @@
+//! The first pass over a script: the forms of its definitions, and the names that come twice.
 ghost use Rattle.std.specs.Prelude.{◌≡◌, ◌++◌, ◌∷◌, ℕ, ◌↔◌, ◌⊎◌, List, [], length, slice_get, true, IfOk, OnOk};
 ghost use Rattle.std.specs.List.{IsAmong};
 ghost use Rattle.std.specs.Option.{option_copied};
@@ -88,7 +89,8 @@ fn open_definition(first: &Line, last: Option<&Line>) -> Option<Refusal>
 
 /// The token of the function's own name in the first line of a definition with this header.
 fn own_name<'a>(first: &'a Line, header: &Header) -> Option<&'a Token>
-    ensures { option_copied result ≡ slice_get first.now.tokens (length (before_own_name header.now)) }
+    ensures { option_copied result
+        ≡ slice_get first.now.tokens (length (before_own_name header.now)) }
 {
     let result = if header.result.is_some() { 2 } else { 0 };
     let left = if header.left.is_some() { 1 } else { 0 };
@@ -103,8 +105,11 @@ fn second_heading(
     header: &Header,
 ) -> Result<Option<Refusal>, NoMemory>
     requires { IsHeadOf first.now header.now }
-    ensures second { IfOk result (λ second. (ps : List ScriptPart) → ((n : List ℕ) → IsAmong headed.old n ↔ refusal.Heads ps n) → IsFirstIfAny (refused.IsSecondHeading ps first.now) second) }
-    ensures headed { OnOk result ((n : List ℕ) → IsAmong headed.new n ↔ ((n ≡ header.now.f) ⊎ IsAmong headed.old n)) }
+    ensures second { IfOk result (λ second. (ps : List ScriptPart)
+        → ((n : List ℕ) → IsAmong headed.old n ↔ refusal.Heads ps n)
+        → IsFirstIfAny (refused.IsSecondHeading ps first.now) second) }
+    ensures headed { OnOk result ((n : List ℕ) → IsAmong headed.new n
+        ↔ ((n ≡ header.now.f) ⊎ IsAmong headed.old n)) }
 {
     if headed.add(alloc, &header.f)? {
         return Ok(None);
@@ -134,7 +139,8 @@ impl Forms {
     /// Goes over one more part.
     fn add(&mut self, alloc: Global, part: Part) -> Result<(), NoMemory>
         requires { IsReadPart (part_of part) }
-        ensures { OnOk result ((ps : List ScriptPart) → AreForms ps self.old → AreForms (ps ++ part_of part.entry ∷ []) self.new) }
+        ensures { OnOk result ((ps : List ScriptPart) → AreForms ps self.old
+            → AreForms (ps ++ part_of part.entry ∷ []) self.new) }
     {
         match part {
             Part::Alone { line } => {
@@ -155,7 +161,8 @@ impl Forms {
     ) -> Result<(), NoMemory>
         requires read { IsReadLine first.now }
         requires opens { opens first.now.tokens ≡ true }
-        ensures { OnOk result ((ps : List ScriptPart) → AreForms ps self.old → AreForms (ps ++ defined first.now body.now (option_copied last.entry) ∷ []) self.new) }
+        ensures { OnOk result ((ps : List ScriptPart) → AreForms ps self.old
+            → AreForms (ps ++ defined first.now body.now (option_copied last.entry) ∷ []) self.new) }
     {
         let form = earlier(nested_lines(body), open_definition(first, last));
         match read_header(alloc, first) {

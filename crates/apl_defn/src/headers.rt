@@ -1,3 +1,4 @@
+//! Headers: the first lines of definitions.
 ghost use Rattle.std.specs.Prelude.{◌≡◌, true, [], IfOk};
 ghost use Rattle.apl_model.specs.Refusal as refusal;
 ghost use Rattle.apl_model.specs.Script.{opens, IsHeadOf};
@@ -150,7 +151,8 @@ pub(crate) fn read_header(alloc: Global, line: &Line) -> Result<Header, LineFaul
     requires read { IsReadLine line.now }
     requires opens { opens line.now.tokens ≡ true }
     ensures header { IfOk result (IsHeadOf line.now) }
-    ensures stopped { IfStopped result (refusal.StopsAt refusal.first_line [] line.now.number line.now.tokens) }
+    ensures stopped { IfStopped result
+        (refusal.StopsAt refusal.first_line [] line.now.number line.now.tokens) }
 {
     let _text = line.text.as_str();
     let tokens = line.tokens.as_slice();

@@ -1,3 +1,4 @@
+//! Why a line was not read.
 ghost use Rattle.std.specs.Prelude.{◌≡◌};
 ghost use Rattle.apl_model.specs.Refusal.{past_last};
 

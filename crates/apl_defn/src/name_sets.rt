@@ -1,3 +1,4 @@
+//! Sets of names.
 ghost use Rattle.std.specs.Prelude.{◌≡◌, ◌↔◌, ◌⊎◌, ℕ, List, [], IsTrue, IfOk, OnOk};
 ghost use Rattle.std.specs.Bool.{OnFalse};
 ghost use Rattle.std.specs.List.{IsAmong};
@@ -40,7 +41,8 @@ impl NameSet {
     pub(crate) fn add(&mut self, alloc: Global, name: &Name) -> Result<bool, NoMemory>
         ensures added { IfOk result (λ added. IsTrue added ↔ ¬ (IsAmong self.old name.now)) }
         ensures met { IfOk result (λ added. OnFalse added (IsAmong self.old name.now)) }
-        ensures names { OnOk result ((n : List ℕ) → IsAmong self.new n ↔ ((n ≡ name.now) ⊎ IsAmong self.old n)) }
+        ensures names { OnOk result ((n : List ℕ) → IsAmong self.new n
+            ↔ ((n ≡ name.now) ⊎ IsAmong self.old n)) }
     {
         let text = String::from_str(alloc, name.as_str())?;
         let added = self.texts.insert(text)?;

@@ -1,3 +1,4 @@
+//! Refusals of names, and of depth.
 ghost use Rattle.std.specs.Prelude.{◌≡◌, ◌↔◌, ◌≤◌, ◌⊎◌, ℕ, List, IfOk, OnOk};
 ghost use Rattle.std.specs.List.{IsAmong};
 ghost use Rattle.apl_model.specs.Refusal as refusal;
@@ -46,7 +47,8 @@ fn met_again(
     place: Option<Occurrence>,
 ) -> Result<Option<Refusal>, NoMemory>
     ensures met { IfOk result (IsFirstIfAny (IsMetAgain names.old (at_most_one place.entry))) }
-    ensures names { OnOk result ((n : List ℕ) → IsAmong names.new n ↔ (IsAmong names.old n ⊎ IsNamed (at_most_one place.entry) n)) }
+    ensures names { OnOk result ((n : List ℕ) → IsAmong names.new n
+        ↔ (IsAmong names.old n ⊎ IsNamed (at_most_one place.entry) n)) }
 {
     let Some(place) = place else {
         return Ok(None);
@@ -110,7 +112,8 @@ pub(crate) fn erased_name(line: &Line, lookup: &Lookup) -> Option<Refusal>
 
 /// The first name among tokens that heads a definition.
 fn heading_among(line: u32, tokens: &[Token], lookup: &Lookup) -> Option<Refusal>
-    ensures { IsFirstIfAny (IsWrong (IsHeading lookup.now) (refusal.names_in line tokens.now)) result }
+    ensures { IsFirstIfAny
+        (IsWrong (IsHeading lookup.now) (refusal.names_in line tokens.now)) result }
 {
     let mut found = None;
     for token in tokens {
@@ -153,7 +156,8 @@ pub(crate) fn declared_name(
 
 /// The refusal of a name that heads another definition than this one's own.
 fn other_heading(own: &Name, place: Option<Occurrence>, lookup: &Lookup) -> Option<Refusal>
-    ensures { IsFirstIfAny (IsWrong (λ n. ¬ (n ≡ own.now) × IsHeading lookup.now n) (at_most_one place.entry)) result }
+    ensures { IsFirstIfAny (IsWrong (λ n. ¬ (n ≡ own.now)
+        × IsHeading lookup.now n) (at_most_one place.entry)) result }
 {
     let name = place?.name;
     if name.is(own) {

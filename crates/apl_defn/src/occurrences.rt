@@ -1,3 +1,4 @@
+//! Names at their places.
 ghost use Rattle.std.specs.Prelude.{◌≡◌, ◌∷◌, []};
 ghost use Rattle.apl_model.specs.Refusal.{names_in, label_in};
 ghost use Rattle.apl_defn.specs.Occurrences.{at_most_one};

@@ -1,3 +1,4 @@
+//! The parts of a script: lines outside definitions, and definitions.
 ghost use Rattle.std.specs.Prelude.{◌≡◌, ◌∷◌, ◌<◌, ◌≤◌, [], length, position, false, MatchOption, OnSome};
 ghost use Rattle.apl_model.specs.Script.{parts, opens, closes, is_empty};
 ghost use Rattle.apl_defn.specs.Parts.{part_of};
@@ -89,7 +90,8 @@ impl<'a> Parts<'a> {
 
     /// Takes the next part, where there is one.
     pub(crate) fn next(&mut self) -> Option<Part<'a>>
-        ensures parts { MatchOption result (parts self.old.rest.now ≡ []) (λ part. parts self.old.rest.now ≡ part_of part ∷ parts self.new.rest.now) }
+        ensures parts { MatchOption result (parts self.old.rest.now
+            ≡ []) (λ part. parts self.old.rest.now ≡ part_of part ∷ parts self.new.rest.now) }
         ensures fewer { OnSome result (length self.new.rest.now < length self.old.rest.now) }
     {
         while let Some((line, after)) = self.rest.split_first() {

@@ -1,3 +1,4 @@
+//! The script that lines or bytes are, or its first refusal.
 ghost use Rattle.std.specs.Prelude.{map, IfOk};
 ghost use Rattle.apl_model.specs.Mirror.{item_of, script_of};
 ghost use Rattle.apl_model.specs.Refusal.{IsAccepted, IsFirst, IsLineRefusal, IsRefusal};

@@ -1,3 +1,4 @@
+//! Lines with a statement: outside definitions, and in bodies.
 ghost use Rattle.std.specs.Prelude.{◌≡◌, ◌==◌, ◌≤◌, Some, None, true, false, length, drop, IfOk};
 ghost use Rattle.std.specs.Option.{option_map};
 ghost use Rattle.apl_model.specs.Grammar.{IsStatement};
@@ -24,7 +25,8 @@ pub(crate) fn read_outside(
 ) -> Result<ScriptItem, LineFault>
     requires { IsReadLine line.now }
     ensures item { IfOk result (λ item. IsItem lookup.now (alone line.now) (item_of item)) }
-    ensures stopped { IfStopped result (refusal.StopsAt refusal.outside lookup.now line.now.number line.now.tokens) }
+    ensures stopped { IfStopped result
+        (refusal.StopsAt refusal.outside lookup.now line.now.number line.now.tokens) }
 {
     if begins_command(line.tokens.as_slice()) {
         command_item(alloc, line, lookup)
@@ -38,7 +40,8 @@ fn command_item(alloc: Global, line: &Line, lookup: &Lookup) -> Result<ScriptIte
     requires read { IsReadLine line.now }
     requires begins { start.begins_command line.now.tokens ≡ true }
     ensures item { IfOk result (λ item. IsItem lookup.now (alone line.now) (item_of item)) }
-    ensures stopped { IfStopped result (refusal.StopsAt refusal.outside lookup.now line.now.number line.now.tokens) }
+    ensures stopped { IfStopped result
+        (refusal.StopsAt refusal.outside lookup.now line.now.number line.now.tokens) }
 {
     let command = read_command(alloc, line)?;
     Ok(ScriptItem::Command {
@@ -52,7 +55,8 @@ fn statement_item(alloc: Global, line: &Line, lookup: &Lookup) -> Result<ScriptI
     requires read { IsReadLine line.now }
     requires begins { start.begins_command line.now.tokens ≡ false }
     ensures item { IfOk result (λ item. IsItem lookup.now (alone line.now) (item_of item)) }
-    ensures stopped { IfStopped result (refusal.StopsAt refusal.outside lookup.now line.now.number line.now.tokens) }
+    ensures stopped { IfStopped result
+        (refusal.StopsAt refusal.outside lookup.now line.now.number line.now.tokens) }
 {
     let statement = read_statement(alloc, line, 0, lookup)?;
     Ok(ScriptItem::Statement {
@@ -69,7 +73,8 @@ pub(crate) fn read_body_line(
 ) -> Result<BodyLine, LineFault>
     requires { IsReadLine line.now }
     ensures body { IfOk result (λ body. IsBodyLine lookup.now line.now (body_line_of body)) }
-    ensures stopped { IfStopped result (refusal.StopsAt refusal.in_body lookup.now line.now.number line.now.tokens) }
+    ensures stopped { IfStopped result
+        (refusal.StopsAt refusal.in_body lookup.now line.now.number line.now.tokens) }
 {
     match label_of(line.tokens.as_slice(), lookup) {
         Some(label) => labelled_line(alloc, line, label, lookup),
@@ -87,7 +92,8 @@ fn labelled_line(
     requires read { IsReadLine line.now }
     requires label { start.label_of lookup.now line.now.tokens ≡ Some label.now }
     ensures body { IfOk result (λ body. IsBodyLine lookup.now line.now (body_line_of body)) }
-    ensures stopped { IfStopped result (refusal.StopsAt refusal.in_body lookup.now line.now.number line.now.tokens) }
+    ensures stopped { IfStopped result
+        (refusal.StopsAt refusal.in_body lookup.now line.now.number line.now.tokens) }
 {
     let _text = line.text.as_str();
     let label = label.copy(alloc)?;
@@ -104,7 +110,8 @@ fn unlabelled_line(alloc: Global, line: &Line, lookup: &Lookup) -> Result<BodyLi
     requires read { IsReadLine line.now }
     requires label { start.label_of lookup.now line.now.tokens ≡ None }
     ensures body { IfOk result (λ body. IsBodyLine lookup.now line.now (body_line_of body)) }
-    ensures stopped { IfStopped result (refusal.StopsAt refusal.in_body lookup.now line.now.number line.now.tokens) }
+    ensures stopped { IfStopped result
+        (refusal.StopsAt refusal.in_body lookup.now line.now.number line.now.tokens) }
 {
     let _text = line.text.as_str();
     let statement = read_statement(alloc, line, 0, lookup)?;
@@ -126,8 +133,10 @@ fn read_statement(
     requires within { from ≤ length line.now.tokens }
     requires tokens { AreTokensOf line.now.text (drop from line.now.tokens) }
     ensures lawful { IfOk result (λ s. IsStatement lookup.now (statement_of s)) }
-    ensures spells { IfOk result (λ s. Spell line.now.number (statement_spelling (statement_of s)) (drop from line.now.tokens)) }
-    ensures stopped { IfStopped result (refusal.StopsAt refusal.by_itself lookup.now line.now.number (drop from line.now.tokens)) }
+    ensures spells { IfOk result (λ s. Spell line.now.number (statement_spelling (statement_of s))
+        (drop from line.now.tokens)) }
+    ensures stopped { IfStopped result
+        (refusal.StopsAt refusal.by_itself lookup.now line.now.number (drop from line.now.tokens)) }
 {
     match statement_among(alloc, line, from, lookup) {
         Ok(statement) => Ok(statement),

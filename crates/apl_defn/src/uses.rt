@@ -1,3 +1,4 @@
+//! The second pass over a script: the uses of names, depth, and the grammar of statements.
 ghost use Rattle.std.specs.Prelude.{◌≡◌, ◌++◌, ◌∷◌, ℕ, List, [], Some, None, IfOk, OnOk};
 ghost use Rattle.std.specs.List.{IsAmong};
 ghost use Rattle.apl_model.specs.Refusal as refusal;
@@ -59,7 +60,8 @@ impl Body {
     /// Goes over one more line.
     fn add(&mut self, alloc: Global, line: &Line, lookup: &Lookup) -> Result<(), NoMemory>
         requires { IsReadLine line.now }
-        ensures { OnOk result ((ls : List GivenLine) → IsBody lookup.now ls self.old → IsBody lookup.now (ls ++ line.now ∷ []) self.new) }
+        ensures { OnOk result ((ls : List GivenLine) → IsBody lookup.now ls self.old
+            → IsBody lookup.now (ls ++ line.now ∷ []) self.new) }
     {
         let refusal = earlier(assigned_name(line, lookup), deep_token(line));
         match read_body_line(alloc, line, lookup) {
@@ -104,7 +106,8 @@ impl Uses {
     /// Goes over one more line outside definitions.
     fn add_outside(&mut self, alloc: Global, line: &Line, lookup: &Lookup) -> Result<(), NoMemory>
         requires { IsReadLine line.now }
-        ensures { OnOk result ((ps : List ScriptPart) → AreUses lookup.now ps self.old → AreUses lookup.now (ps ++ alone line.now ∷ []) self.new) }
+        ensures { OnOk result ((ps : List ScriptPart) → AreUses lookup.now ps self.old
+            → AreUses lookup.now (ps ++ alone line.now ∷ []) self.new) }
     {
         let names = earlier(assigned_name(line, lookup), erased_name(line, lookup));
         let refusal = earlier(names, deep_token(line));
@@ -135,7 +138,8 @@ impl Uses {
     ) -> Result<(), NoMemory>
         requires head { IsHeadOf first.now header }
         requires read { (l : GivenLine) → IsAmong body.now l → IsReadLine l }
-        ensures { OnOk result ((ps : List ScriptPart) → AreUses lookup.now ps self.old → AreUses lookup.now (ps ++ defined first.now body.now (Some last.now) ∷ []) self.new) }
+        ensures { OnOk result ((ps : List ScriptPart) → AreUses lookup.now ps self.old
+            → AreUses lookup.now (ps ++ defined first.now body.now (Some last.now) ∷ []) self.new) }
     {
         let declared = declared_name(&header.f, first, body, lookup);
         let Body { earliest, lines } = read_body(alloc, body, lookup)?;
@@ -160,7 +164,8 @@ pub(crate) fn read_uses(
 ) -> Result<Uses, NoMemory>
     requires read { (l : GivenLine) → IsAmong lines.now l → IsReadLine l }
     requires heads { AreHeaders (parts lines.now) headers.items }
-    requires closed { (first : GivenLine) (body : List GivenLine) → ¬ (IsAmong (parts lines.now) (defined first body None)) }
+    requires closed { (first : GivenLine) (body : List GivenLine)
+        → ¬ (IsAmong (parts lines.now) (defined first body None)) }
     ensures { IfOk result (AreUses lookup.now (parts lines.now)) }
 {
     let mut uses = Uses::new(alloc, lookup);

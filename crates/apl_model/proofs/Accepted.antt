@@ -44,6 +44,14 @@ among_cases xs x v (suc i, h) = let b = h.0 in inr (i, (omega arith, h.1))
 pub among_none : {A : Type 0} (v : A) → IsAmong [] v → ⊥
 among_none v h = let b = h.1.0 in omega arith
 
+-- members of one of two lists are members of both together
+pub among_first : {A : Type 0} (xs ys : List A) (v : A) → IsAmong xs v → IsAmong (xs ++ ys) v
+among_first [] ys v m = absurd (among_none v m)
+among_first (x ∷ xs) ys v m = elim (among_cases xs x v m) [
+  | inl e ↦ among_here (xs ++ ys) x v e
+  | inr k ↦ among_there (xs ++ ys) x v (among_first xs ys v k)
+]
+
 -- ---- Where lines stop ----
 
 module _ (kind : LineKind) (hs : List Heading) (n : ℕ) (line : List ℕ) (ts : List Token) (read : IsRead line ts) where
@@ -319,11 +327,13 @@ sound_by (found.text cs) f = tt
 sound_by (found.name n) f = tt
 sound_by (found.glyph g) f = tt
 
-all_sound : (ps : List Piece) → ((p : Piece) (c : Cause) → IsAmong ps p → p.found ≡ fault c → ⊥) → AreSound ps
+-- pieces without faults are sound
+pub all_sound : (ps : List Piece) → ((p : Piece) (c : Cause) → IsAmong ps p → p.found ≡ fault c → ⊥) → AreSound ps
 all_sound [] f = tt
 all_sound (p ∷ ps) f = (sound_by p.found (λ c e. f p c (among_here ps p p refl) e), all_sound ps (λ q c m e. f q c (among_there ps p q m) e))
 
-opens_two : (ts : List Token) → opens ts ≡ true → (t : Token) × (us : List Token) × (ts ≡ t ∷ us)
+-- what opens a definition has two tokens or more
+pub opens_two : (ts : List Token) → opens ts ≡ true → (t : Token) × (us : List Token) × (ts ≡ t ∷ us)
 opens_two [] e = absurd (false_true e)
 opens_two (t ∷ []) e = absurd (false_true e)
 opens_two (t ∷ u ∷ ts) e = (t, u ∷ ts, refl)

@@ -4,7 +4,7 @@ use Rattle.std.specs.Prelude.{slice_get, codes, length, ◌&&◌}
 use Rattle.std.specs.List.{IsAmong, AllByRecursion, AllZip, IsDistinct}
 use Rattle.std.specs.Option.{option_to_list}
 use lib.Pointwise.{bytes_decides}
-use Rattle.apl_model.proofs.Accepted.{among_here, among_there, among_cases, among_none}
+use Rattle.apl_model.proofs.Accepted.{among_here, among_there, among_cases, among_none, among_first}
 use Rattle.apl_model.proofs.Decide.{false_true}
 use Rattle.apl_model.proofs.Rows.{before_after}
 use Rattle.apl_model.specs.declared.scripts.Command.{Command}
@@ -128,7 +128,8 @@ definition_names hs top ls last d i =
 
 -- ---- Names that head a definition ----
 
-more_heads : (p : Part) (ps : List Part) (n : List ℕ) → Heads ps n → Heads (p ∷ ps) n
+-- a name that heads one of the parts heads one of more parts
+pub more_heads : (p : Part) (ps : List Part) (n : List ℕ) → Heads ps n → Heads (p ∷ ps) n
 more_heads p ps n h = record {
   first = h.first;
   body = h.body;
@@ -172,16 +173,12 @@ lawful_lines hs [] (b ∷ bs) z = absurd z
 lawful_lines hs (l ∷ ls) [] z = absurd z
 lawful_lines hs (l ∷ ls) (b ∷ bs) z = (record { label = z.0.label; statement = z.0.statement }, lawful_lines hs ls bs z.1)
 
-among_append : (ps qs : List Part) (p : Part) → IsAmong ps p → IsAmong (ps ++ qs) p
-among_append [] qs p m = absurd (among_none p m)
-among_append (x ∷ ps) qs p m = elim (among_cases ps x p m) [ inl e ↦ among_here (ps ++ qs) x p e | inr k ↦ among_there (ps ++ qs) x p (among_append ps qs p k) ]
-
 heads_append : (ps qs : List Part) (n : List ℕ) → Heads ps n → Heads (ps ++ qs) n
 heads_append ps qs n h = record {
   first = h.first;
   body = h.body;
   header = h.header;
-  is_defined = record { last = h.is_defined.last; among = among_append ps qs (defined h.first h.body h.is_defined.last) h.is_defined.among; head = h.is_defined.head };
+  is_defined = record { last = h.is_defined.last; among = among_first ps qs (defined h.first h.body h.is_defined.last) h.is_defined.among; head = h.is_defined.head };
   same = h.same;
 }
 

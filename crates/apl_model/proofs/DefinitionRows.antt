@@ -7,8 +7,9 @@ use lib.Dec.{lit≤}
 use Rattle.apl_base.specs.declared.faults.Cause.TheVariants as cause
 use Rattle.apl_base.specs.declared.faults.Refusal.{Refusal}
 use Rattle.apl_model.proofs.Accepted.{among_here, among_cases, among_none, no_stop}
-use Rattle.apl_model.proofs.GrammarRows.{line_1, no_faults_at}
+use Rattle.apl_model.proofs.GrammarRows.{line_1, line_2, no_faults_at}
 use Rattle.apl_model.proofs.Rows.{OnLine, lines_in, lines_of_text, whole_text, as_first, reading_all, first_in_lines, one_stop}
+use Rattle.apl_model.proofs.TokenSlices.{same_head}
 use Rattle.apl_model.proofs.Unique.{one_header}
 use Rattle.apl_model.specs.Examples as example
 use Rattle.apl_model.specs.Lines.{lines_of}
@@ -102,9 +103,6 @@ definition_row cs ls r h s e a f =
     (λ o x. reading_all (encode_utf8_all cs) (λ _. ⊥) ls lines (λ u. absurd (omega arith)) a o x)
     (f (lines_of (encode_utf8_all cs)) lines)
 
-abbrev line_2 : List ℕ → Line
-line_2 cs = record { number = 2; text = cs; tokens = tokens cs }
-
 abbrev open_top : Line
 open_top = line_1 (codes "∇F")
 
@@ -112,9 +110,6 @@ single : {A : Type 0} (before after : List A) (x y : A) → x ∷ [] ≡ before 
 single [] after x y e = refl
 single (b ∷ []) after x y e = cc
 single (b ∷ c ∷ before) after x y e = cc
-
-first_column : (t u : Token) (ts us : List Token) → t ∷ ts ≡ u ∷ us → t ≡ u
-first_column t u ts us e = cc
 
 open_lawful : IsLawful first_line [] 1 (tokens (codes "∇F"))
 open_lawful = (record { f = codes "F"; result = None; left = None; right = None; locals = [] }, search rules, search rules)
@@ -128,7 +123,7 @@ open_first ks e =
     (λ k x. absurd (no_stop first_line [] 1 (codes "∇F") (tokens (codes "∇F")) (record { sound = search rules; same = refl }) k open_lawful x))
     (λ h before after o p d f m g. absurd (among_none p (subst (λ v. IsAmong v p) (single before after (record { name = codes "F"; line = 1; column = 2 }) o f) m)))
     (λ t ts f g. as_first (refusal cause.OpenDefinition 1 1) (refusal cause.OpenDefinition 1 t.from)
-    (ap (λ (v : Token). refusal cause.OpenDefinition 1 v.from) (sym (first_column (example.glyph 1 "∇") t (example.named 2 3 "F" ∷ []) ts g))))
+    (ap (λ (v : Token). refusal cause.OpenDefinition 1 v.from) (sym (same_head (example.glyph 1 "∇") t (example.named 2 3 "F" ∷ []) ts g))))
 
 pub open_row : example.RefusalOfOpenDefinition
 unfolding encode_utf8

@@ -78,6 +78,9 @@ sound_by_test (p ∷ ps) e = (elim (is_fault p.found) as (λ b. is_fault p.found
 abbrev pub line_1 : List ℕ → Line
 line_1 cs = record { number = 1; text = cs; tokens = tokens cs }
 
+abbrev pub line_2 : List ℕ → Line
+line_2 cs = record { number = 2; text = cs; tokens = tokens cs }
+
 pub one_line_row : (cs : List ℕ) (k : ℕ) → all_scalars cs ≡ true → length (encode_utf8_all cs) ≤ 2 ^ 20 → lines_in cs ≡ line_1 cs ∷ [] →
     parts (line_1 cs ∷ []) ≡ alone (line_1 cs) ∷ [] → length cs ≤ 1000 → no_faults (pieces cs) ≡ true → closes (tokens cs) ≡ false →
     too_deep 0 (tokens cs) ≡ None → StopsAt outside [] 1 (tokens cs) k → example.IsRefusedAt cs cause.Grammar 1 k

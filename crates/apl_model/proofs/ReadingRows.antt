@@ -9,7 +9,7 @@ use Rattle.apl_base.specs.declared.faults.Cause.{Cause}
 use Rattle.apl_base.specs.declared.faults.Cause.TheVariants as cause
 use Rattle.apl_base.specs.declared.faults.Refusal.{Refusal}
 use Rattle.apl_model.proofs.Accepted.{among_here}
-use Rattle.apl_model.proofs.GrammarRows.{line_1}
+use Rattle.apl_model.proofs.GrammarRows.{line_1, line_2}
 use Rattle.apl_model.proofs.Rows.{OnLine, AtFault, lines_in, lines_of_text, whole_text, reading_all, first_in_reading}
 use Rattle.apl_model.specs.Examples as example
 use Rattle.apl_model.specs.Examples.{blanks}
@@ -57,9 +57,6 @@ character = text_row (codes "2@3") (refusal cause.Character 1 2) (line_1 (codes 
     (fault_in (encode_utf8_all (codes "2@3")) (line_1 (codes "2@3") ∷ []) (line_1 (codes "2@3")) (record { from = 2; past = 3; found = fault cause.Character }) cause.Character
     (0, (lit< tt, refl)) (1, (lit< tt, refl)) refl)
     ((λ h. inr (refl, inr (refl, inl (lit< tt))), (tt, (same 1 1 2 3, (tt, tt)))), tt)
-
-abbrev line_2 : List ℕ → Line
-line_2 cs = record { number = 2; text = cs; tokens = tokens cs }
 
 pub by_phase : example.RefusalByPhase
 unfolding encode_utf8

@@ -46,7 +46,8 @@ not_after_itself (x ∷ xs) = inr (refl, not_after_itself xs)
 pub as_first : (r o : Refusal) → o ≡ r → IsNotAfter (order r) (order o)
 as_first r o e = subst (λ v. IsNotAfter (order r) (order v)) (sym e) (not_after_itself (order r))
 
-phase_is : (r : Refusal) (c : Cause) (l k : ℕ) → r ≡ refusal c l k → phase r.cause ≡ phase c
+-- a refusal comes in the phase of its cause
+pub phase_is : (r : Refusal) (c : Cause) (l k : ℕ) → r ≡ refusal c l k → phase r.cause ≡ phase c
 phase_is r c l k e = ap (λ (v : Refusal). phase v.cause) e
 
 late : (r : Refusal) (n : ℕ) → 2 ≤ n → phase r.cause ≡ n → 2 ≤ phase r.cause
@@ -156,7 +157,8 @@ module _ (kind : LineKind) (hs : List Heading) (n : ℕ) where
 alone_same : (l m : Line) → alone l ≡ alone m → l ≡ m
 alone_same l m e = cc
 
-alone_defined : {A : Type 0} (top : Line) (body : List Line) (last : Option Line) (l : Line) → defined top body last ≡ alone l → A
+-- a definition is no line by itself
+pub alone_defined : {A : Type 0} (top : Line) (body : List Line) (last : Option Line) (l : Line) → defined top body last ≡ alone l → A
 alone_defined top body last l e = cc
 
 true_false : {A : Type 0} {b : Bool} → b ≡ true → b ≡ false → A

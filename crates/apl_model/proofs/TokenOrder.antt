@@ -1,8 +1,8 @@
 -- The tokens of a line stand in order.
-use Rattle.std.proofs.Common.{◌≡◌, ℕ, zero, suc, ◌+◌, ◌<◌, ◌≤◌, ◌==◌, true, false, List, [], ◌∷◌, ℤ, pos, sym, subst, arith}
+use Rattle.std.proofs.Common.{◌≡◌, ℕ, zero, suc, ◌+◌, ◌<◌, ◌≤◌, ◌==◌, true, false, List, [], ◌∷◌, ℤ, subst, arith}
 use Rattle.apl_model.specs.Characters.{code, is_blank}
 use Rattle.apl_model.specs.Laws.{StandInOrder}
-use Rattle.apl_model.specs.Tokens.{Found, number, text, name, glyph, fault, Beginning, beginning, Piece, pieces_after, number_before, tokens_of_pieces, IsRead}
+use Rattle.apl_model.specs.Tokens.{Found, number, text, name, glyph, fault, beginning, Piece, pieces_after, number_before, tokens_of_pieces, IsRead}
 use Rattle.apl_model.specs.declared.tokens.Token.{Token}
 use Rattle.apl_model.specs.declared.tokens.Word.{Word}
 use Rattle.apl_model.specs.declared.tokens.Word.TheVariants as word

@@ -2,7 +2,7 @@
 use Rattle.std.specs.Prelude.{ℕ, ◌+◌, ◌*◌, ◌-◌, ◌==◌, Bool, true, false, ◌&&◌, ◌||◌, if◌then◌else◌, List, [], ◌∷◌, codes, slice_index, Option, Some, None, ℤ, pos, neg_ℤ}
 use Rattle.std.specs.Int.{is_in_range}
 use Rattle.std.specs.List.{list_any}
-use Rattle.apl_base.specs.Number.{is_number}
+use Rattle.apl_base.specs.Scalar.{in_range}
 use Prim.Native.String.{String}
 
 -- the character that a text of one character writes
@@ -68,14 +68,10 @@ abbrev pub are_digits : List ℕ → Bool
 are_digits [] = false
 are_digits (d ∷ ds) = is_digit d && all_pass is_digit ds
 
--- a number of the language, or none
-abbrev pub lawful_number : ℤ → Option ℤ
-lawful_number z = if is_number z then Some z else None
-
 -- the number that a numeric word writes: ¯ or nothing, then one or more digits, and within -M..M
 abbrev pub number_of : List ℕ → Option ℤ
 number_of [] = None
 number_of (c ∷ cs) =
     if c == code "¯"
-    then (if are_digits cs then lawful_number (neg_ℤ (pos (decimal_after 0 cs))) else None)
-    else (if are_digits (c ∷ cs) then lawful_number (pos (decimal_after 0 (c ∷ cs))) else None)
+    then (if are_digits cs then in_range (neg_ℤ (pos (decimal_after 0 cs))) else None)
+    else (if are_digits (c ∷ cs) then in_range (pos (decimal_after 0 (c ∷ cs))) else None)

@@ -40,7 +40,8 @@ impl<R: Read> Source for StdSource<R> {
         // Each fault is counted, and nothing else is; the reader gave these bytes.
         ensures ok { OnOk result (source_faults self.new ≡ source_faults self.old) }
         ensures err { OnErr result (source_faults self.new ≡ one_more (source_faults self.old)) }
-        ensures read { ReadConsumes (R.remaining (reader_of self.old)) (R.remaining (reader_of self.new)) result buf.new }
+        ensures read { ReadConsumes (R.remaining (reader_of self.old))
+            (R.remaining (reader_of self.new)) result buf.new }
     {
         match self.inner.read(buf) {
             Ok(count) => Ok(count),
@@ -87,7 +88,8 @@ impl<W: Write> Sink for StdSink<W> {
         // Each fault is counted, and nothing else is; the writer took these bytes.
         ensures ok { OnOk result (sink_faults self.new ≡ sink_faults self.old) }
         ensures err { OnErr result (sink_faults self.new ≡ one_more (sink_faults self.old)) }
-        ensures wrote { WriteAppends (W.contents (writer_of self.old)) (W.contents (writer_of self.new)) result piece.now }
+        ensures wrote { WriteAppends (W.contents (writer_of self.old))
+            (W.contents (writer_of self.new)) result piece.now }
     {
         match self.inner.write(piece) {
             Ok(0) | Err(_) => {

@@ -25,7 +25,8 @@ pub fn worked_examples()
 
 /// What one call after another takes, adds and counts.
 pub fn calls_in_turn()
-    ensures rose { (before old new after : ℕ) → before ≤ old → Rose old new → new ≤ after → Rose before after }
+    ensures rose { (before old new after : ℕ) → before ≤ old → Rose old new → new ≤ after
+        → Rose before after }
     ensures counted { (old : ℕ) → Rose old (one_more old) }
 
     ensures lost { (first second third : Option (List ℕ)) (xs ys : List ℕ) →
@@ -42,5 +43,6 @@ pub fn calls_in_turn()
 pub fn told_bytes()
     ensures lost { (held bytes : List ℕ) (new : Option (List ℕ)) → Loses (Some held) new bytes →
         (bytes ≡ take (length bytes) held) × (new ≡ Some (drop (length bytes) held)) }
-    ensures gained { (held bytes : List ℕ) (new : Option (List ℕ)) → Gains (Some held) new bytes → new ≡ Some (held ++ bytes) }
+    ensures gained { (held bytes : List ℕ) (new : Option (List ℕ)) → Gains (Some held) new bytes
+        → new ≡ Some (held ++ bytes) }
 {}

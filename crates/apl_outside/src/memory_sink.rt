@@ -41,7 +41,8 @@ impl MemSink {
         failing: Vec<u64>,
     ) -> Result<MemSink, NoMemory>
         requires { 0 < most }
-        ensures { IfOk result (λ s. s ≡ record { written = []; room = room; most = most; failing = failing.items; calls = 0; faults = 0 }) }
+        ensures { IfOk result (λ s. s
+            ≡ record { written = []; room = room; most = most; failing = failing.items; calls = 0; faults = 0 }) }
     {
         let Ok(bytes) = Vec::with_capacity(alloc, room) else {
             return Err(NoMemory);
@@ -73,17 +74,23 @@ impl Sink for MemSink {
         requires { 0 < length piece.now }
         ensures some { IfOk result (λ n. 0 < n) }
         ensures bound { IfOk result (λ n. n ≤ length piece.now) }
-        ensures added { IfOk result (λ n. Gains (Some self.old.written) (Some self.new.written) (take n piece.now)) }
+        ensures added { IfOk result
+            (λ n. Gains (Some self.old.written) (Some self.new.written) (take n piece.now)) }
 
         ensures failed { OnErr result (Rose self.old.faults self.new.faults) }
         ensures unchanged { OnErr result (self.new.written ≡ self.old.written) }
         ensures never_falls { self.old.faults ≤ self.new.faults }
 
         // When a call fails, how much one takes, and all that it changes.
-        ensures fails { IsErr result ↔ (Contains self.old.failing (one_more self.old.calls) ⊎ (length self.old.written ≡ self.old.room)) }
-        ensures amount { IfOk result (λ n. n ≡ min self.old.most (min (length piece.now) (self.old.room - length self.old.written))) }
-        ensures ok { IfOk result (λ n. self.new ≡ record self.old { written = self.old.written ++ take n piece.now; calls = one_more self.old.calls }) }
-        ensures err { OnErr result (self.new ≡ record self.old { calls = one_more self.old.calls; faults = one_more self.old.faults }) }
+        ensures fails { IsErr result
+            ↔ (Contains self.old.failing (one_more self.old.calls)
+            ⊎ (length self.old.written ≡ self.old.room)) }
+        ensures amount { IfOk result (λ n. n
+            ≡ min self.old.most (min (length piece.now) (self.old.room - length self.old.written))) }
+        ensures ok { IfOk result (λ n. self.new
+            ≡ record self.old { written = self.old.written ++ take n piece.now; calls = one_more self.old.calls }) }
+        ensures err { OnErr result (self.new
+            ≡ record self.old { calls = one_more self.old.calls; faults = one_more self.old.faults }) }
     {
         self.calls = self.calls.saturating_add(1);
         let free = self.room - self.bytes.len();

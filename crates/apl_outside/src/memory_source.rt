@@ -33,7 +33,8 @@ impl MemSource {
     /// `failing`.
     pub fn new(bytes: Vec<u8>, most: usize, failing: Vec<u64>) -> MemSource
         requires { 0 < most }
-        ensures { result ≡ record { left = bytes.items; most = most; failing = failing.items; calls = 0; faults = 0 } }
+        ensures { result
+            ≡ record { left = bytes.items; most = most; failing = failing.items; calls = 0; faults = 0 } }
     {
         MemSource {
             bytes,
@@ -54,7 +55,8 @@ impl Source for MemSource {
     fn pull(&mut self, buf: &mut [u8]) -> Result<usize, Failed>
         requires { 0 < length buf.old }
         ensures bound { IfOk result (λ n. n ≤ length buf.new) }
-        ensures taken { IfOk result (λ n. Loses (Some self.old.left) (Some self.new.left) (take n buf.new)) }
+        ensures taken { IfOk result
+            (λ n. Loses (Some self.old.left) (Some self.new.left) (take n buf.new)) }
         ensures end { IfOk result (λ n. (n ≡ 0) ↔ (self.old.left ≡ [])) }
 
         ensures failed { OnErr result (Rose self.old.faults self.new.faults) }
@@ -63,9 +65,12 @@ impl Source for MemSource {
 
         // When a call fails, how much one gives, and all that it changes.
         ensures fails { IsErr result ↔ Contains self.old.failing (one_more self.old.calls) }
-        ensures amount { IfOk result (λ n. n ≡ min self.old.most (min (length buf.new) (length self.old.left))) }
-        ensures ok { IfOk result (λ n. self.new ≡ record self.old { left = drop n self.old.left; calls = one_more self.old.calls }) }
-        ensures err { OnErr result (self.new ≡ record self.old { calls = one_more self.old.calls; faults = one_more self.old.faults }) }
+        ensures amount { IfOk result (λ n. n
+            ≡ min self.old.most (min (length buf.new) (length self.old.left))) }
+        ensures ok { IfOk result (λ n. self.new
+            ≡ record self.old { left = drop n self.old.left; calls = one_more self.old.calls }) }
+        ensures err { OnErr result (self.new
+            ≡ record self.old { calls = one_more self.old.calls; faults = one_more self.old.faults }) }
     {
         self.calls = self.calls.saturating_add(1);
         if self.failing.contains(&self.calls) {

@@ -17,7 +17,8 @@ pub trait Sink {
         requires { 0 < length piece.now }
         ensures some { IfOk result (λ n. 0 < n) }
         ensures bound { IfOk result (λ n. n ≤ length piece.now) }
-        ensures added { IfOk result (λ n. Gains (written self.old) (written self.new) (take n piece.now)) }
+        ensures added { IfOk result
+            (λ n. Gains (written self.old) (written self.new) (take n piece.now)) }
 
         ensures failed { OnErr result (Rose (faults self.old) (faults self.new)) }
         ensures unchanged { OnErr result (written self.new ≡ written self.old) }

@@ -47,11 +47,15 @@ pub fn read_all<S: Source>(alloc: Global, src: &mut S, most: usize) -> Result<Ve
     ensures emptied { OnOk result (IfSome (S.left src.new) (λ rest. rest ≡ [])) }
     ensures within { IfOk result (λ bytes. length bytes.items ≤ most) }
 
-    ensures too_long { IsErrOf result ReadEnd.TooLong → LosesCount (S.left src.old) (S.left src.new) (most + 1) }
-    ensures was_longer { IsErrOf result ReadEnd.TooLong → IfSome (S.left src.old) (λ held. most < length held) }
-    ensures failed { IsErrOf result ReadEnd.Failed → LosesUpTo (S.left src.old) (S.left src.new) most }
+    ensures too_long { IsErrOf result ReadEnd.TooLong
+        → LosesCount (S.left src.old) (S.left src.new) (most + 1) }
+    ensures was_longer { IsErrOf result ReadEnd.TooLong
+        → IfSome (S.left src.old) (λ held. most < length held) }
+    ensures failed { IsErrOf result ReadEnd.Failed
+        → LosesUpTo (S.left src.old) (S.left src.new) most }
     ensures rose { IsErrOf result ReadEnd.Failed → Rose (S.faults src.old) (S.faults src.new) }
-    ensures no_memory { IsErrOf result ReadEnd.NoMemory → LosesUpTo (S.left src.old) (S.left src.new) most }
+    ensures no_memory { IsErrOf result ReadEnd.NoMemory
+        → LosesUpTo (S.left src.old) (S.left src.new) most }
     ensures never_falls { S.faults src.old ≤ S.faults src.new }
 {
     let mut bytes = Vec::new(alloc);

@@ -5,7 +5,8 @@ use Rattle.std.proofs.Math.Seq.{drop-length}
 use Rattle.std.proofs.lemmas.Bool.{leb-true, leb-false, le-leb, eqb-true}
 use Rattle.std.specs.Option.{option_map}
 use Rattle.apl_base.specs.Number.{is_number}
-use Rattle.apl_model.specs.Characters.{is_digit, all_pass, are_digits, decimal_after, lawful_number, number_of}
+use Rattle.apl_base.specs.Scalar.{in_range}
+use Rattle.apl_model.specs.Characters.{is_digit, all_pass, are_digits, decimal_after, number_of}
 
 pub digit_range : (c : ℕ) → is_digit c ≡ true → (48 ≤ c) × (c ≤ 57)
 digit_range c h = elim (nat_le 48 c) as (λ a. nat_le 48 c ≡ a → (a && nat_le c 57) ≡ true → (48 ≤ c) × (c ≤ 57)) [
@@ -36,7 +37,7 @@ read_digit digits at value r lt d small =
     }
 
 abbrev pub digits_number : List ℕ → Option ℤ
-digits_number ds = if are_digits ds then lawful_number (pos (decimal_after 0 ds)) else None
+digits_number ds = if are_digits ds then in_range (pos (decimal_after 0 ds)) else None
 
 pub no_digit : (digits : List ℕ) (at value : ℕ) → AreRead digits at value → at < length digits → is_digit (get_or digits at 0) ≡ false → None ≡ digits_number digits
 no_digit digits at value r lt d =
@@ -51,7 +52,7 @@ grows n (d ∷ ds) = let h = grows (n * 10 + (d - 48)) ds in omega arith
 abbrev M : ℕ
 M = 1_000_000_000_000_000_000_000_000_000_000_000_000
 
-too_great : (n : ℕ) → M < n → lawful_number (pos n) ≡ None
+too_great : (n : ℕ) → M < n → in_range (pos n) ≡ None
 too_great n h = elim (nat_le n M) as (λ b. nat_le n M ≡ b → (if (int_le (neg_ℤ (pos M)) (pos n) && b) then Some (pos n) else None) ≡ None) [
   | true ↦ λ e. let k = leb-true n M e in absurd (omega arith)
   | false ↦ λ e. refl
@@ -63,8 +64,8 @@ too_many digits at value r lt d great =
     let e : drop at digits ≡ get_or digits at 0 ∷ drop (at + 1) digits = (rw (add-one, drop-cons digits at 0)) in
     let v : decimal_after 0 digits ≡ decimal_after (value * 10 + (get_or digits at 0 - 48)) (drop (at + 1) digits) = r.same ∙ ap (decimal_after value) e in
     let g = grows (value * 10 + (get_or digits at 0 - 48)) (drop (at + 1) digits) in
-    let none : lawful_number (pos (decimal_after 0 digits)) ≡ None = too_great (decimal_after 0 digits) (rw v (omega arith)) in
-    elim (are_digits digits) as (λ b. None ≡ (if b then lawful_number (pos (decimal_after 0 digits)) else None)) [
+    let none : in_range (pos (decimal_after 0 digits)) ≡ None = too_great (decimal_after 0 digits) (rw v (omega arith)) in
+    elim (are_digits digits) as (λ b. None ≡ (if b then in_range (pos (decimal_after 0 digits)) else None)) [
       | true ↦ sym none
       | false ↦ refl
     ]
@@ -87,7 +88,7 @@ same_test m = elim (nat_le m 999_999_999_999_999_999_999_999_999_999_999_999) as
 ] refl
 
 -- the number of the digits with ¯ before them
-pub negative : (n : ℕ) → lawful_number (neg_ℤ (pos n)) ≡ option_map neg_ℤ (lawful_number (pos n))
+pub negative : (n : ℕ) → in_range (neg_ℤ (pos n)) ≡ option_map neg_ℤ (in_range (pos n))
 negative zero = refl
 negative (suc m) = elim (nat_le (suc m) M) as (λ q. nat_le m 999_999_999_999_999_999_999_999_999_999_999_999 ≡ q →
     (if (nat_le m 999_999_999_999_999_999_999_999_999_999_999_999 && true) then Some (negsuc m) else None) ≡ option_map neg_ℤ (if q then Some (pos (suc m)) else None)) [
@@ -96,7 +97,7 @@ negative (suc m) = elim (nat_le (suc m) M) as (λ q. nat_le m 999_999_999_999_99
     ] (same_test m)
 
 pub number_negative : (ds : List ℕ) → number_of (175 ∷ ds) ≡ option_map neg_ℤ (digits_number ds)
-number_negative ds = elim (are_digits ds) as (λ b. (if b then lawful_number (neg_ℤ (pos (decimal_after 0 ds))) else None) ≡ option_map neg_ℤ (if b then lawful_number (pos (decimal_after 0 ds)) else None)) [
+number_negative ds = elim (are_digits ds) as (λ b. (if b then in_range (neg_ℤ (pos (decimal_after 0 ds))) else None) ≡ option_map neg_ℤ (if b then in_range (pos (decimal_after 0 ds)) else None)) [
   | true ↦ negative (decimal_after 0 ds)
   | false ↦ refl
 ]
@@ -105,4 +106,4 @@ pub number_plain : (w : List ℕ) → (get_or w 0 0 ≡ 175 → ⊥) → number_
 number_plain [] ne = refl
 number_plain (c ∷ cs) ne =
     let no : (c == 175) ≡ false = (elim (c == 175) as (λ t. (c == 175) ≡ t → t ≡ false) [ true ↦ λ e. absurd (ne (eqb-true c 175 e)) | false ↦ λ e. refl ]) refl in
-    ap (λ b. if b then (if are_digits cs then lawful_number (neg_ℤ (pos (decimal_after 0 cs))) else None) else digits_number (c ∷ cs)) no
+    ap (λ b. if b then (if are_digits cs then in_range (neg_ℤ (pos (decimal_after 0 cs))) else None) else digits_number (c ∷ cs)) no

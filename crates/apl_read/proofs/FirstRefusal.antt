@@ -9,27 +9,13 @@ use Rattle.std.proofs.lemmas.Str.{utf8_valid_len_le}
 use Rattle.apl_base.specs.declared.faults.Cause.{Cause}
 use Rattle.apl_base.specs.declared.faults.Cause.TheVariants as cause
 use Rattle.apl_base.specs.declared.faults.Refusal.{Refusal}
+use Rattle.apl_model.proofs.Accepted.{among_here, among_there, among_cases, among_none, numbered_tokens, all_sound}
 use Rattle.apl_model.specs.Characters.{is_letter, begins_number, code, is_glyph, read_as, is_number_part, number_of, is_blank}
 use Rattle.apl_model.specs.Lines.{readable, without_mark, cut, onto_first, without_return, texts_of, numbered, lines_of}
 use Rattle.apl_model.specs.Refusal.{refusal, place_after, place_of_end, IsReadingRefusal, ill_formed, long_line, at_fault, rank, phase, order, IsNotAfter, IsFirst, IsFirstIfAny}
-use Rattle.apl_model.specs.Tokens.{Found, number, text, name, glyph, fault, Beginning, quoted, Quoted, name_at, number_at, text_at, beginning, Piece, pieces_after, pieces, tokens, IsSound, AreSound, IsRead}
+use Rattle.apl_model.specs.Tokens.{Found, number, text, name, glyph, fault, Beginning, quoted, Quoted, name_at, number_at, text_at, beginning, Piece, pieces_after, pieces, tokens, IsRead}
 use Rattle.apl_model.specs.declared.tokens.Line.{Line}
 use Rattle.apl_read.specs.Refusals.{Fault, first_fault, long_fault, line_fault, refusal_of_fault, lines_refusal, bytes_refusal, reading_refusal}
-
--- ---- Members of a list ----
-
-among_here : {A : Type 0} (xs : List A) (x v : A) → v ≡ x → IsAmong (x ∷ xs) v
-among_here xs x v e = (0, (omega arith, e))
-
-among_there : {A : Type 0} (xs : List A) (x v : A) → IsAmong xs v → IsAmong (x ∷ xs) v
-among_there xs x v h = (suc h.0, (let b = h.1.0 in omega arith, h.1.1))
-
-among_cases : {A : Type 0} (xs : List A) (x v : A) → IsAmong (x ∷ xs) v → (v ≡ x) ⊎ IsAmong xs v
-among_cases xs x v (zero, h) = inl h.1
-among_cases xs x v (suc i, h) = let b = h.0 in inr (i, (omega arith, h.1))
-
-among_none : {A : Type 0} (v : A) → IsAmong [] v → ⊥
-among_none v h = let b = h.1.0 in omega arith
 
 -- ---- The pieces of a line stand in order ----
 
@@ -456,24 +442,6 @@ first_refusal bytes = of_lines_first bytes (lines_refusal 1 (texts_of bytes)) (l
 
 -- ---- A script without such a refusal ----
 
-sound_pieces : (ps : List Piece) → ((p : Piece) (c : Cause) → IsAmong ps p → p.found ≡ fault c → ⊥) → AreSound ps
-sound_pieces [] h = tt
-sound_pieces (p ∷ ps) h = (go p.found refl, sound_pieces ps (λ q c m. h q c (among_there ps p q m)))
-  where
-    go : (x : Found) → p.found ≡ x → IsSound (record { from = p.from; past = p.past; found = x })
-    go (fault c) e = h p c (among_here ps p p refl) e
-    go (number z) e = tt
-    go (text cs) e = tt
-    go (name n) e = tt
-    go (glyph g) e = tt
-
-own_tokens : (n : ℕ) (ts : List (List ℕ)) (l : Line) → IsAmong (numbered n ts) l → tokens l.text ≡ l.tokens
-own_tokens n [] l m = absurd (among_none l m)
-own_tokens n (t ∷ ts) l m = elim (among_cases (numbered (n + 1) ts) (record { number = n; text = t; tokens = tokens t }) l m) [
-  | inl same ↦ subst (λ (v : Line). tokens v.text ≡ v.tokens) (sym same) refl
-  | inr there ↦ own_tokens (n + 1) ts l there
-]
-
 module _ (bytes : List ℕ) (none : (r : Refusal) → IsReadingRefusal bytes r → ⊥) where
   pub all_whole : utf8_valid_len bytes ≡ length bytes
   all_whole = elim (nat_lt (utf8_valid_len bytes) (length bytes)) as (λ b. nat_lt (utf8_valid_len bytes) (length bytes) ≡ b → utf8_valid_len bytes ≡ length bytes) [
@@ -489,8 +457,8 @@ module _ (bytes : List ℕ) (none : (r : Refusal) → IsReadingRefusal bytes r �
 
   pub all_read : (l : Line) → IsAmong (lines_of bytes) l → IsRead l.text l.tokens
   all_read l m = record {
-    sound = sound_pieces (pieces l.text) (λ p c mp e. none (refusal c l.number p.from) (at_fault l p c m mp e refl));
-    same = own_tokens 1 (texts_of bytes) l m;
+    sound = all_sound (pieces l.text) (λ p c mp e. none (refusal c l.number p.from) (at_fault l p c m mp e refl));
+    same = numbered_tokens 1 (texts_of bytes) l m;
   }
 
 -- each such refusal comes in the first phase

@@ -2,7 +2,7 @@ mod AnswerLemmas
 mod Digits
 pub mod FirstRefusal
 mod QuoteLemmas
-mod LineLemmas
+pub mod LineLemmas
 mod Operands
 mod StepLemmas
 mod WordLemmas

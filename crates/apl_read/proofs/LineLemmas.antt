@@ -30,14 +30,14 @@ cut-cons c (next ∷ cs) =
     ]
 
 -- a place that was found is the first one, and it is one
-place-found : (n l at : ℕ) → Some at ≡ cond (nat_lt n l) (Some n) None → (at ≡ n) × (n < l)
+pub place-found : (n l at : ℕ) → Some at ≡ cond (nat_lt n l) (Some n) None → (at ≡ n) × (n < l)
 place-found n l at h = elim (nat_lt n l) as (λ t. (nat_lt n l ≡ t) → Some at ≡ cond t (Some n) None → (at ≡ n) × (n < l)) [
   | true ↦ λ lt e. (let same : at ≡ n = cc in same, ltb-true n l lt)
   | false ↦ λ _ e. cc
 ] refl h
 
 -- where none was found the first one would be at the end
-place-absent : (n l : ℕ) → None ≡ cond (nat_lt n l) (Some n) None → l ≤ n
+pub place-absent : (n l : ℕ) → None ≡ cond (nat_lt n l) (Some n) None → l ≤ n
 place-absent n l h = elim (nat_lt n l) as (λ t. (nat_lt n l ≡ t) → None ≡ cond t (Some n) None → l ≤ n) [
   | true ↦ λ _ e. absurd (cc)
   | false ↦ λ ge e. ltb-false n l ge

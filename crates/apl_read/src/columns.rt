@@ -20,7 +20,8 @@ const MOST_CHARACTERS: usize = 1000;
 
 /// A refusal.
 pub(crate) fn refuse<T>(line: u32, column: u32, cause: Cause) -> Result<T, ReadFault>
-    ensures { result ≡ Err (ReadFault.Refused (record { line = line; column = column; cause = cause })) }
+    ensures { result
+        ≡ Err (ReadFault.Refused (record { line = line; column = column; cause = cause })) }
 {
     Err(ReadFault::Refused {
         refusal: Refusal {
@@ -47,10 +48,14 @@ fn add(
     past: u32,
     made: &mut Made,
 ) -> Result<(), ReadFault>
-    ensures fault { OnOk result ((ps : List Piece) (p : ℕ) → first_fault (record { from = from; past = p; found = found_of found } ∷ ps) ≡ first_fault ps) }
-    ensures tokens { OnOk result ((ps : List Piece) → made_before made.old (tokens_of_pieces (record { from = from; past = past; found = found_of found } ∷ ps)) ≡ made_before made.new (tokens_of_pieces ps)) }
+    ensures fault { OnOk result ((ps : List Piece) (p : ℕ)
+        → first_fault (record { from = from; past = p; found = found_of found } ∷ ps)
+        ≡ first_fault ps) }
+    ensures tokens { OnOk result ((ps : List Piece)
+        → made_before made.old (tokens_of_pieces (record { from = from; past = past; found = found_of found } ∷ ps)) ≡ made_before made.new (tokens_of_pieces ps)) }
     ensures place { IfErr result (λ fault. IsInColumn fault from) }
-    ensures refused { IfErr result (λ fault. (ps : List Piece) (p : ℕ) → IsRefusedAs fault (option_map (refusal_of_fault number) (first_fault (record { from = from; past = p; found = found_of found } ∷ ps)))) }
+    ensures refused { IfErr result (λ fault. (ps : List Piece) (p : ℕ)
+        → IsRefusedAs fault (option_map (refusal_of_fault number) (first_fault (record { from = from; past = p; found = found_of found } ∷ ps)))) }
 {
     match found {
         Found::Number { value } => {
@@ -89,10 +94,14 @@ fn step(
     requires near { at < 1000 }
     ensures goes { IfOk result (λ next. at < next) }
     ensures within { IfOk result (λ next. next ≤ length text.now) }
-    ensures fault { IfOk result (λ next. first_fault (pieces_from at text.now) ≡ first_fault (pieces_from next text.now)) }
-    ensures tokens { IfOk result (λ next. length text.now ≤ 1000 → made_before made.old (tokens_of_pieces (pieces_from at text.now)) ≡ made_before made.new (tokens_of_pieces (pieces_from next text.now))) }
+    ensures fault { IfOk result (λ next. first_fault (pieces_from at text.now)
+        ≡ first_fault (pieces_from next text.now)) }
+    ensures tokens { IfOk result (λ next. length text.now ≤ 1000
+        → made_before made.old (tokens_of_pieces (pieces_from at text.now))
+        ≡ made_before made.new (tokens_of_pieces (pieces_from next text.now))) }
     ensures place { IfErr result (λ fault. IsInColumn fault (at + 1)) }
-    ensures refused { IfErr result (λ fault. IsRefusedAs fault (option_map (refusal_of_fault number) (first_fault (pieces_from at text.now)))) }
+    ensures refused { IfErr result (λ fault. IsRefusedAs fault
+        (option_map (refusal_of_fault number) (first_fault (pieces_from at text.now)))) }
 {
     let c = text[at];
     if blank(c) {
@@ -122,7 +131,8 @@ pub(crate) fn read_columns(
 ) -> Result<Vec<Token>, ReadFault>
     ensures accepted { OnOk result (line_fault text.now ≡ None) }
     ensures tokens { IfOk result (λ read. read.items ≡ tokens text.now) }
-    ensures refused { IfErr result (λ fault. IsRefusedAs fault (option_map (refusal_of_fault number) (line_fault text.now))) }
+    ensures refused { IfErr result
+        (λ fault. IsRefusedAs fault (option_map (refusal_of_fault number) (line_fault text.now))) }
 {
     let mut made = Made::new(alloc);
     let mut at = 0;

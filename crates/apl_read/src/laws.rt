@@ -12,7 +12,8 @@ ghost use Rattle.apl_read.specs.declared.sums.Sum.TheVariants.{Empty, One, Two};
 pub fn worked_lines()
     ensures lines { texts_of (codes "10\n\n7+1\n") ≡ codes "10" ∷ [] ∷ codes "7+1" ∷ [] }
     ensures sum { sums_of (codes "2+3") ≡ Two 2 3 ∷ [] }
-    ensures said { sums_of (codes "10\n\n99999999999999999+1") ≡ One 10 ∷ Empty ∷ Two 99999999999999999 1 ∷ [] }
+    ensures said { sums_of (codes "10\n\n99999999999999999+1")
+        ≡ One 10 ∷ Empty ∷ Two 99999999999999999 1 ∷ [] }
     ensures accepted { refusal_of (codes "2+3") ≡ None }
     ensures difference { refusal_of (codes "2+3\n2-1") ≡ Some (not_built 2) }
     ensures too_many_digits { refusal_of (codes "100000000000000000") ≡ Some (not_built 1) }

@@ -35,7 +35,8 @@ impl Made {
 
     /// Adds a number, which goes on a literal.
     pub(crate) fn add_number(&mut self, from: u32, past: u32, value: Cell) -> Result<(), NoMemory>
-        ensures { OnOk result ((ts : List Token) → made_before self.old (number_before from past value ts) ≡ made_before self.new ts) }
+        ensures { OnOk result ((ts : List Token)
+            → made_before self.old (number_before from past value ts) ≡ made_before self.new ts) }
     {
         if self.numbers.is_empty() {
             self.from = from;
@@ -64,7 +65,8 @@ impl Made {
     /// Adds a token that is no literal of numbers.
     pub(crate) fn add_token(&mut self, alloc: Global, token: Token) -> Result<(), NoMemory>
         requires { IsNoNumbers token.word }
-        ensures { OnOk result ((ts : List Token) → made_before self.old (token ∷ ts) ≡ made_before self.new ts) }
+        ensures { OnOk result ((ts : List Token)
+            → made_before self.old (token ∷ ts) ≡ made_before self.new ts) }
     {
         self.end_literal(alloc)?;
         self.tokens.push(token)?;

@@ -1,6 +1,7 @@
 //! The value of a numeric word.
 ghost use Rattle.std.specs.Prelude.{◌≡◌, ◌≤ℤ◌, ◌∷◌, pos, None, if◌then◌else◌, IfSome};
-ghost use Rattle.apl_model.specs.Characters.{are_digits, decimal_after, lawful_number, number_of};
+ghost use Rattle.apl_base.specs.Scalar.{in_range};
+ghost use Rattle.apl_model.specs.Characters.{are_digits, decimal_after, number_of};
 
 use crate::characters::digit;
 use apl_base::Cell;
@@ -10,7 +11,8 @@ const MOST: u128 = 1_000_000_000_000_000_000_000_000_000_000_000_000;
 
 /// The value of one or more digits, where it is a number.
 fn magnitude(digits: &[char]) -> Option<Cell>
-    ensures same { result ≡ (if are_digits digits.now then lawful_number (pos (decimal_after 0 digits.now)) else None) }
+    ensures same { result
+        ≡ (if are_digits digits.now then in_range (pos (decimal_after 0 digits.now)) else None) }
     ensures within { IfSome result (λ z. (pos 0 ≤ℤ z) × (z ≤ℤ pos MOST)) }
 {
     if digits.is_empty() {

@@ -67,7 +67,8 @@ fn number_length(rest: &[char]) -> usize
 /// The name at this index.
 fn begin_name(alloc: Global, line: &[char], at: usize) -> Result<Begun, NoMemory>
     requires { at < length line.now }
-    ensures same { IfOk result (λ b. beginning_of b ≡ name_at (slice_index line.now at) (drop (at + 1) line.now)) }
+    ensures same { IfOk result (λ b. beginning_of b
+        ≡ name_at (slice_index line.now at) (drop (at + 1) line.now)) }
     ensures within { IfOk result (λ b. at + 1 + b.more ≤ length line.now) }
 {
     let more = name_length(&line[at + 1..]);
@@ -94,7 +95,8 @@ fn found_number(word: &[char]) -> Found
 /// The numeric word at this index.
 fn begin_number(line: &[char], at: usize) -> Begun
     requires { at < length line.now }
-    ensures same { beginning_of result ≡ number_at (slice_index line.now at) (drop (at + 1) line.now) }
+    ensures same { beginning_of result
+        ≡ number_at (slice_index line.now at) (drop (at + 1) line.now) }
     ensures within { at + 1 + result.more ≤ length line.now }
 {
     let more = number_length(&line[at + 1..]);
@@ -140,7 +142,8 @@ fn begin_glyph(c: char) -> Begun
 /// What begins at this index.
 pub(crate) fn begin(alloc: Global, line: &[char], at: usize) -> Result<Begun, NoMemory>
     requires { at < length line.now }
-    ensures same { IfOk result (λ b. beginning_of b ≡ beginning (slice_index line.now at) (drop (at + 1) line.now)) }
+    ensures same { IfOk result (λ b. beginning_of b
+        ≡ beginning (slice_index line.now at) (drop (at + 1) line.now)) }
     ensures within { IfOk result (λ b. at + 1 + b.more ≤ length line.now) }
 {
     let c = line[at];

@@ -1,3 +1,4 @@
+//! Scripts of sums: what each line says, or the first refusal.
 ghost use Rattle.std.specs.Prelude.{◌≡◌, None, OnOk, IfOk, IfErr};
 ghost use Rattle.std.specs.List.{filter_map};
 ghost use Rattle.apl_model.specs.Lines.{lines_of};

@@ -102,8 +102,10 @@ fn end_of(characters: &[char]) -> Option<(u32, u32)>
 /// The line of this number and text.
 fn read_line(alloc: Global, number: u32, text: &[char]) -> Result<Line, ReadFault>
     ensures accepted { OnOk result (line_fault text.now ≡ None) }
-    ensures line { IfOk result (λ line. line ≡ record { number = number; text = text.now; tokens = model.tokens text.now }) }
-    ensures refused { IfErr result (λ fault. IsRefusedAs fault (option_map (refusal_of_fault number) (line_fault text.now))) }
+    ensures line { IfOk result (λ line. line
+        ≡ record { number = number; text = text.now; tokens = model.tokens text.now }) }
+    ensures refused { IfErr result
+        (λ fault. IsRefusedAs fault (option_map (refusal_of_fault number) (line_fault text.now))) }
 {
     let tokens = read_columns(alloc, number, text)?;
     let text = Text::of(string_of(alloc, text)?);
@@ -116,9 +118,12 @@ fn read_line(alloc: Global, number: u32, text: &[char]) -> Result<Line, ReadFaul
 
 /// The lines of these characters.
 fn read_lines(alloc: Global, characters: &[char]) -> Result<Vec<Line>, ReadFault>
-    ensures accepted { OnOk result (lines_refusal 1 (map without_return (cut characters.now)) ≡ None) }
-    ensures lines { IfOk result (λ lines. lines.items ≡ numbered 1 (map without_return (cut characters.now))) }
-    ensures refused { IfErr result (λ fault. IsRefusedAs fault (lines_refusal 1 (map without_return (cut characters.now)))) }
+    ensures accepted { OnOk result (lines_refusal 1 (map without_return (cut characters.now))
+        ≡ None) }
+    ensures lines { IfOk result (λ lines. lines.items
+        ≡ numbered 1 (map without_return (cut characters.now))) }
+    ensures refused { IfErr result
+        (λ fault. IsRefusedAs fault (lines_refusal 1 (map without_return (cut characters.now)))) }
 {
     let mut lines = Vec::new(alloc);
     let mut number = 1u32;

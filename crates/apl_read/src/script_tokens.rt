@@ -20,8 +20,10 @@ use std::alloc::Global;
 pub fn tokens(alloc: Global, script: &[u8]) -> Result<Lines, ReadFault>
     ensures lines { IfOk result (λ lines. lines.lines ≡ lines_of script.now) }
     ensures whole { OnOk result (utf8_valid_len script.now ≡ length script.now) }
-    ensures short { OnOk result ((l : Line) → IsAmong (lines_of script.now) l → length l.text ≤ 1000) }
-    ensures read { OnOk result ((l : Line) → IsAmong (lines_of script.now) l → IsRead l.text l.tokens) }
+    ensures short { OnOk result ((l : Line) → IsAmong (lines_of script.now) l
+        → length l.text ≤ 1000) }
+    ensures read { OnOk result ((l : Line) → IsAmong (lines_of script.now) l
+        → IsRead l.text l.tokens) }
     ensures accepted { OnOk result ((r : Refusal) → ¬ (IsReadingRefusal script.now r)) }
     // The refusal is the first one; that memory is wanting has no stated cause.
     ensures refused { IfErr result (λ fault. IsRefusedFirst fault (IsReadingRefusal script.now)) }

@@ -1,3 +1,4 @@
+//! What a line of a script of sums says.
 ghost use Rattle.std.specs.Prelude.{◌≡◌, ◌==◌, length, position};
 ghost use Rattle.apl_read.specs.Sums.{operand_of, sum_of};
 

@@ -50,7 +50,8 @@ fn value_of_line(line: &Sum) -> Option<Cell>
 
 /// Adds what a line prints.
 fn add_line(text: &mut String, line: &Sum) -> Result<(), PrintFault>
-    ensures added { OnOk result (string_bytes text.new ≡ string_bytes text.old ++ printed line.now) }
+    ensures added { OnOk result (string_bytes text.new
+        ≡ string_bytes text.old ++ printed line.now) }
     ensures only_memory { IsOkUnless result PrintFault.NoMemory }
 {
     if let Some(value) = value_of_line(line) {
@@ -111,8 +112,10 @@ pub(crate) fn print_refusal<O: Sink>(
     refusal: &Refusal,
     out: &mut O,
 ) -> Result<(), PrintFault>
-    ensures ok { OnOk result (Gains (O.written out.old) (O.written out.new) (refusal_line refusal.now)) }
-    ensures err { OnErr result (GainsPrefix (O.written out.old) (O.written out.new) (refusal_line refusal.now)) }
+    ensures ok { OnOk result
+        (Gains (O.written out.old) (O.written out.new) (refusal_line refusal.now)) }
+    ensures err { OnErr result
+        (GainsPrefix (O.written out.old) (O.written out.new) (refusal_line refusal.now)) }
     ensures rose { IsErrOf result PrintFault.OutFault → Rose (O.faults out.old) (O.faults out.new) }
     ensures never_falls { O.faults out.old ≤ O.faults out.new }
 {
@@ -128,8 +131,10 @@ pub(crate) fn print_lines<O: Sink>(
     lines: &[Sum],
     out: &mut O,
 ) -> Result<(), PrintFault>
-    ensures ok { OnOk result (Gains (O.written out.old) (O.written out.new) (flat_map printed lines.now)) }
-    ensures err { OnErr result (GainsPrefix (O.written out.old) (O.written out.new) (flat_map printed lines.now)) }
+    ensures ok { OnOk result
+        (Gains (O.written out.old) (O.written out.new) (flat_map printed lines.now)) }
+    ensures err { OnErr result
+        (GainsPrefix (O.written out.old) (O.written out.new) (flat_map printed lines.now)) }
     ensures rose { IsErrOf result PrintFault.OutFault → Rose (O.faults out.old) (O.faults out.new) }
     ensures never_falls { O.faults out.old ≤ O.faults out.new }
 {

@@ -25,24 +25,32 @@ pub fn aplm<S: Source, O: Sink, T: Sink>(
     tr: &mut T,
 ) -> Ended
     // The status and the printed bytes are those of immediate evaluation, where the run is not cut short.
-    ensures status { IsAnswer result.status → IfSome (S.left src.old) (λ script. result.status ≡ (immediate script).status) }
-    ensures bytes { IsAnswer result.status → IfSome (S.left src.old) (λ script. Gains (O.written out.old) (O.written out.new) (immediate script).bytes) }
-    ensures prefix { IsCutShort result.status → IfSome (S.left src.old) (λ script. GainsPrefix (O.written out.old) (O.written out.new) (immediate script).bytes) }
+    ensures status { IsAnswer result.status
+        → IfSome (S.left src.old) (λ script. result.status ≡ (immediate script).status) }
+    ensures bytes { IsAnswer result.status
+        → IfSome (S.left src.old) (λ script. Gains (O.written out.old) (O.written out.new) (immediate script).bytes) }
+    ensures prefix { IsCutShort result.status
+        → IfSome (S.left src.old) (λ script. GainsPrefix (O.written out.old) (O.written out.new) (immediate script).bytes) }
     ensures silent { IsSilent result.status → out.new ≡ out.old }
 
     // When each of the other statuses comes. Want of memory has no stated cause.
     ensures write_fault { IsWriteFault result.status → Rose (O.faults out.old) (O.faults out.new) }
-    ensures read_fault { result.status ≡ Status.ReadFault → Rose (S.faults src.old) (S.faults src.new) }
+    ensures read_fault { result.status ≡ Status.ReadFault
+        → Rose (S.faults src.old) (S.faults src.new) }
     ensures words { (result.status ≡ Status.Words) ↔ (0 < length words.now) }
     ensures can_come { CanCome result.status }
-    ensures complete { length words.now ≡ 0 → ¬ Rose (S.faults src.old) (S.faults src.new) → ¬ Rose (O.faults out.old) (O.faults out.new) → IsAnswerOrNoMemory result.status }
+    ensures complete { length words.now ≡ 0 → ¬ Rose (S.faults src.old) (S.faults src.new)
+        → ¬ Rose (O.faults out.old) (O.faults out.new) → IsAnswerOrNoMemory result.status }
 
     // The source was read to its end, or it held too much: a read fault is never taken for the end of the script.
-    ensures left { HasRead result.status → IfSome (S.left src.old) (λ script. (S.left src.new ≡ Some []) ⊎ (MOST_BYTES < length script)) }
+    ensures left { HasRead result.status
+        → IfSome (S.left src.old) (λ script. (S.left src.new ≡ Some [])
+        ⊎ (MOST_BYTES < length script)) }
     ensures unread { result.status ≡ Status.Words → src.new ≡ src.old }
 
     // The trace has its last line alone.
-    ensures last_line { GainsUnlessRose (T.written tr.old) (T.written tr.new) (last_line result.status) (Rose (T.faults tr.old) (T.faults tr.new)) }
+    ensures last_line { GainsUnlessRose (T.written tr.old) (T.written tr.new)
+        (last_line result.status) (Rose (T.faults tr.old) (T.faults tr.new)) }
     ensures no_last_line { HasNoLastLine result.status → tr.new ≡ tr.old }
 
     ensures origin { result.ws.origin ≡ pos 1 }
@@ -67,15 +75,20 @@ fn run_words<S: Source, O: Sink>(
     src: &mut S,
     out: &mut O,
 ) -> Status
-    ensures status { IsAnswer result → IfSome (S.left src.old) (λ script. result ≡ (immediate script).status) }
-    ensures bytes { IsAnswer result → IfSome (S.left src.old) (λ script. Gains (O.written out.old) (O.written out.new) (immediate script).bytes) }
-    ensures prefix { IsCutShort result → IfSome (S.left src.old) (λ script. GainsPrefix (O.written out.old) (O.written out.new) (immediate script).bytes) }
+    ensures status { IsAnswer result
+        → IfSome (S.left src.old) (λ script. result ≡ (immediate script).status) }
+    ensures bytes { IsAnswer result
+        → IfSome (S.left src.old) (λ script. Gains (O.written out.old) (O.written out.new) (immediate script).bytes) }
+    ensures prefix { IsCutShort result
+        → IfSome (S.left src.old) (λ script. GainsPrefix (O.written out.old) (O.written out.new) (immediate script).bytes) }
     ensures silent { IsSilent result → out.new ≡ out.old }
     ensures write_fault { IsWriteFault result → Rose (O.faults out.old) (O.faults out.new) }
     ensures read_fault { result ≡ Status.ReadFault → Rose (S.faults src.old) (S.faults src.new) }
     ensures words { (result ≡ Status.Words) ↔ (0 < length words.now) }
     ensures can_come { CanCome result }
-    ensures left { HasRead result → IfSome (S.left src.old) (λ script. (S.left src.new ≡ Some []) ⊎ (MOST_BYTES < length script)) }
+    ensures left { HasRead result
+        → IfSome (S.left src.old) (λ script. (S.left src.new ≡ Some [])
+        ⊎ (MOST_BYTES < length script)) }
     ensures unread { result ≡ Status.Words → src.new ≡ src.old }
     ensures src_never_falls { S.faults src.old ≤ S.faults src.new }
     ensures out_never_falls { O.faults out.old ≤ O.faults out.new }
@@ -141,7 +154,8 @@ fn text_of_last_line(status: &Status) -> &'static str
 
 /// Writes the last line of the trace, if the status has one. It takes no memory.
 fn push_last_line<T: Sink>(status: &Status, tr: &mut T)
-    ensures line { GainsUnlessRose (T.written tr.old) (T.written tr.new) (last_line status.now) (Rose (T.faults tr.old) (T.faults tr.new)) }
+    ensures line { GainsUnlessRose (T.written tr.old) (T.written tr.new) (last_line status.now)
+        (Rose (T.faults tr.old) (T.faults tr.new)) }
     ensures no_line { HasNoLastLine status.now → tr.new ≡ tr.old }
     ensures never_falls { T.faults tr.old ≤ T.faults tr.new }
 {

@@ -3,6 +3,7 @@ use Rattle.std.proofs.Common.{◌≡◌, ℕ, Bool, true, false, cond, List, [],
 use Rattle.std.specs.Char.{encode_utf8}
 use Rattle.std.specs.Cmp.Lexicographic.{bytes_decides}
 use Rattle.std.specs.Str.{chars, encode_utf8_all}
+use Rattle.apl_base.proofs.Booleans.{by_false}
 use Rattle.apl_model.specs.Environment.{is_same_name}
 use Rattle.apl_model.specs.declared.scripts.Command.TheVariants as command
 use Rattle.apl_defn.specs.CommandSteps as step
@@ -17,11 +18,6 @@ named_is n a b c d e f g h = λ i. cond (sym e i) (Some (so_far.Whole command.Va
 -- a name whose text is the literal is that word
 is_it : (n bytes w : List ℕ) → chars bytes ≡ n → bytes ≡ w → chars w ≡ w → is_same_name n w ≡ true
 is_it n bytes w e f g = (bytes_decides n w).1 (sym e ∙ ap chars f ∙ g)
-
--- a test of what does not hold is false
-by_false : (b : Bool) (P : Type 0) → (b ≡ true → P) → (P → ⊥) → b ≡ false
-by_false true P f g = absurd (g (f refl))
-by_false false P f g = refl
 
 -- and one whose text is not is another
 is_not : (n bytes w : List ℕ) → bytes ≡ encode_utf8_all n → (bytes ≡ w → ⊥) → encode_utf8_all w ≡ w → is_same_name n w ≡ false

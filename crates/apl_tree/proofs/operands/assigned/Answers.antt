@@ -4,7 +4,7 @@ use Rattle.apl_model.proofs.Machine as machine
 use Rattle.apl_model.specs.Mirror.{tree_of}
 use Rattle.apl_model.specs.Tree.{variable, subscript}
 use Rattle.apl_tree.specs.Mirror.{stack_of, reading_of}
-use Rattle.apl_tree.proofs.steps.assigned.Goals as goal
+use Rattle.apl_tree.proofs.operands.assigned.Goals as goal
 
 pub returns-in-Name-into_inner : goal.returns-in-Name-into_inner
 returns-in-Name-into_inner c =
