@@ -1,7 +1,6 @@
 //! The arrays that the tests are made of, and the reading of all their elements.
 
-ghost use Rattle.std.specs.Prelude.{◌≡◌, ◌<◌, [], length, All, IfOk};
-ghost use Rattle.apl_base.specs.Array.{size_of};
+ghost use Rattle.std.specs.Prelude.{◌≡◌, [], length, All, IfOk};
 ghost use Rattle.apl_base.specs.Number.{IsNumber};
 ghost use Rattle.array_store.specs.Stores.{StoreView};
 ghost use Rattle.drag_along.specs.Nodes.{leaf_shape};
@@ -12,7 +11,7 @@ use apl_base::{Cell, Kind, Shape, TooLarge};
 use array_desc::Desc;
 use array_store::Store;
 use drag_along::{Leaf, whole_view};
-use e_machine::read_at;
+use e_machine::read_places;
 use std::alloc::{AllocError, Global};
 use std::test::Fail;
 
@@ -66,23 +65,12 @@ pub fn everywhere(alloc: Global, number: Cell, shape: &Shape) -> Leaf
     }
 }
 
-// The element at a place of the row-major order.
-pub fn number_at(leaf: &Leaf, place: u64, store: &mut Store) -> Cell
-    requires lawful { IsLawfulLeaf store.old leaf.now }
-    requires place { place < size_of (leaf_shape leaf.now) }
-    ensures { IsLawfulLeaf store.new leaf.now }
-{
-    let index = leaf.desc().shape.index_of(place);
-    read_at(leaf, index.as_slice(), store).cell
-}
-
 // All elements of a leaf.
 pub fn listed(alloc: Global, leaf: &Leaf, store: &mut Store) -> Result<Vec<Cell>, AllocError>
     requires { IsLawfulLeaf store.old leaf.now }
 {
-    let mut cells = Vec::new(alloc);
-    for place in 0..leaf.desc().size() {
-        cells.push(number_at(leaf, place, store))?;
-    }
+    let size = leaf.desc().size();
+    let mut cells = Vec::with_capacity(alloc, size as usize)?;
+    read_places(leaf, 0, size, store, &mut cells);
     Ok(cells)
 }
