@@ -97,7 +97,8 @@ lines-coded : (ls : List BodyLine) (rest : List Code) → lines_with (map outlin
 lines-coded [] rest = refl
 lines-coded (l ∷ ls) rest = ap (λ more. record { line = l.line; label = l.label; statement = compiled l.line l.statement } ∷ more) (lines-coded ls rest)
 
-codes-behind : (ls : List BodyLine) (rest : List Code) → drop (length (map outline_body ls)) (map (λ l. compiled l.line l.statement) ls ++ rest) ≡ rest
+-- behind the codes of a body stand those of what follows
+pub codes-behind : (ls : List BodyLine) (rest : List Code) → drop (length (map outline_body ls)) (map (λ l. compiled l.line l.statement) ls ++ rest) ≡ rest
 codes-behind [] rest = refl
 codes-behind (l ∷ ls) rest = codes-behind ls rest
 

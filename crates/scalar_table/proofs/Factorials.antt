@@ -1,10 +1,11 @@
 -- The table of factorials, entry by entry.
-use Rattle.std.proofs.Common.{◌≡◌, ℕ, zero, suc, ◌+◌, ◌^◌, ◌<◌, ◌≤◌, Bool, true, false, ◌&&◌, cond, ℤ, pos, negsuc, ◌≤ℤ◌, List, [], ◌∷◌, length, slice_index_or, unsigned_abs, to_z, of_z, Some, None, refl, ap, ◌∙◌, sym, arith}
+use Rattle.std.proofs.Common.{◌≡◌, ℕ, zero, suc, ◌+◌, ◌^◌, ◌<◌, ◌≤◌, Bool, true, ◌&&◌, cond, ℤ, pos, negsuc, ◌≤ℤ◌, List, [], ◌∷◌, length, slice_index_or, unsigned_abs, to_z, of_z, Some, None, refl, ap, ◌∙◌, sym, arith}
 use Rattle.std.specs.Int.{w128}
 use Rattle.std.specs.Ordering.{int_eq}
 use Rattle.std.proofs.lemmas.Int.{ints, to_z_pos}
 use Rattle.std.proofs.lemmas.Bool.{le-leb}
 use Rattle.std.proofs.lemmas.Bool.Decides.{Decides-int_eq}
+use Rattle.apl_base.proofs.Booleans.{both_parts}
 use Rattle.apl_base.specs.Scalar.{factorial, factorial_of}
 use Rattle.scalar_table.specs.LawfulNumbers.{factorial-le}
 use Rattle.scalar_table.specs.declared.numbers.TheConstants.{FACTORIALS}
@@ -14,18 +15,14 @@ abbrev are_factorials : ℕ → List ℤ → Bool
 are_factorials k [] = true
 are_factorials k (x ∷ xs) = int_eq x (pos (factorial k)) && are_factorials (suc k) xs
 
-both : (p q : Bool) → p && q ≡ true → (p ≡ true) × (q ≡ true)
-both true q h = (refl, h)
-both false q h = absurd (cc)
-
 entry_of : (k : ℕ) (xs : List ℤ) (n : ℕ) → are_factorials k xs ≡ true → n < length xs → slice_index_or xs n (pos 0) ≡ pos (factorial (k + n))
 entry_of k [] n t h = absurd (omega arith)
 entry_of k (x ∷ xs) zero t h =
     let e : k ≡ k + 0 = omega arith in
-    (Decides-int_eq x (pos (factorial k))).0 (both _ _ t).0 ∙ ap (λ m. pos (factorial m)) e
+    (Decides-int_eq x (pos (factorial k))).0 (both_parts _ _ t).0 ∙ ap (λ m. pos (factorial m)) e
 entry_of k (x ∷ xs) (suc n) t h =
     let e : suc k + n ≡ k + suc n = omega arith in
-    entry_of (suc k) xs n (both _ _ t).1 (omega arith) ∙ ap (λ m. pos (factorial m)) e
+    entry_of (suc k) xs n (both_parts _ _ t).1 (omega arith) ∙ ap (λ m. pos (factorial m)) e
 
 entry : (n : ℕ) → n ≤ 32 → slice_index_or FACTORIALS n (pos 0) ≡ pos (factorial n)
 entry n h =

@@ -1,12 +1,12 @@
 -- What a scalar function gives at numbers of the language is such a number.
 use Rattle.std.proofs.Common.{◌≡◌, ℕ, zero, suc, ◌+◌, ◌-◌, ◌*◌, ◌/◌, ◌%◌, ◌^◌, ◌≤◌, Bool, true, false, not, ◌&&◌, ◌||◌, cond, ◌==◌, leb, ℤ, pos, negsuc, neg_ℤ, ◌-ℤ◌, ◌+ℤ◌, ◌*ℤ◌, int_le, int_lt, int_div, unsigned_abs, Option, Some, None, IfSome, refl, ap, ◌∙◌, arith}
 use Rattle.std.proofs.lemmas.Int.{ints}
-use Rattle.std.specs.Int.{int_pow, int_max, int_min, int_signum, int_div_euclid}
+use Rattle.std.specs.Int.{int_pow, int_signum, int_div_euclid}
 use Rattle.std.specs.Ordering.{int_eq}
 use Rattle.std.proofs.Math.Nat.{div-le_self, pow-suc}
 use Rattle.std.proofs.lemmas.Bool.{leb-true, eqb-true}
 use Rattle.std.specs.Option.{option_map, option_and_then}
-use Rattle.apl_base.specs.declared.cells.TheConstants.{M}
+use Rattle.apl_base.proofs.Numbers.{is_number-true, IsNumber-magnitude, magnitude-IsNumber, IsNumber-int_min, IsNumber-int_max}
 use Rattle.apl_base.specs.declared.rows.Mon.{Mon}
 use Rattle.apl_base.specs.declared.rows.Mon.TheVariants as mon
 use Rattle.apl_base.specs.declared.rows.Dya.{Dya}
@@ -27,38 +27,19 @@ pub unsigned_abs-int_pow : (a : ℤ) (n : ℕ) → unsigned_abs (int_pow a n) �
 unsigned_abs-int_pow (pos a) n = refl
 unsigned_abs-int_pow (negsuc a) n = elim (n % 2 == 0) as (λ b. unsigned_abs (cond b (pos (suc a ^ n)) (neg_ℤ (pos (suc a ^ n)))) ≡ suc a ^ n) [ true ↦ refl | false ↦ unsigned_abs-neg (suc a ^ n) ]
 
-by_magnitude : (z : ℤ) → unsigned_abs z ≤ 10 ^ 36 → IsNumber z
-by_magnitude (pos n) h = record { least = omega (arith, ints); most = omega (arith, ints) }
-by_magnitude (negsuc n) h = record { least = omega (arith, ints); most = omega (arith, ints) }
-
-magnitude-le : (z : ℤ) → IsNumber z → unsigned_abs z ≤ 10 ^ 36
-magnitude-le (pos n) h = omega (arith, ints, h.most)
-magnitude-le (negsuc n) h = omega (arith, ints, h.least)
-
-both : (p q : Bool) → p && q ≡ true → (p ≡ true) × (q ≡ true)
-both true q h = (refl, h)
-both false q h = absurd (cc)
-
-by_test : (z : ℤ) → is_number z ≡ true → IsNumber z
-by_test z t =
-    let p = both (int_le (neg_ℤ M) z) (int_le z M) t in
-    let low : int_le (neg_ℤ M) z ≡ true = p.0 in
-    let high : int_le z M ≡ true = p.1 in
-    record { least = omega (arith, ints); most = omega (arith, ints) }
-
 -- an option that holds its value under a test
 under_test : (b : Bool) (z : ℤ) → (b ≡ true → IsNumber z) → IfSome (cond b (Some z) None) IsNumber
 under_test true z h = h refl
 under_test false z h = tt
 
 in_range-lawful : (z : ℤ) → IfSome (in_range z) IsNumber
-in_range-lawful z = under_test (is_number z) z (by_test z)
+in_range-lawful z = under_test (is_number z) z (is_number-true z)
 
 zero-lawful : IsNumber (pos 0)
-zero-lawful = by_magnitude (pos 0) (omega arith)
+zero-lawful = IsNumber-magnitude (pos 0) (omega arith)
 
 pub truth-lawful : (b : Bool) → IsNumber (truth b)
-truth-lawful true = by_magnitude (pos 1) (omega arith)
+truth-lawful true = IsNumber-magnitude (pos 1) (omega arith)
 truth-lawful false = zero-lawful
 
 truth_of-lawful : (b : Bool) (o : Option Bool) (f : Bool → Bool) → IfSome (option_map (λ q. truth (f q)) o) IsNumber
@@ -69,8 +50,8 @@ neg-lawful : (z : ℤ) → IsNumber z → IsNumber (neg_ℤ z)
 neg-lawful z h = record { least = omega (arith, ints, h.least, h.most); most = omega (arith, ints, h.least, h.most) }
 
 sign-lawful : (z : ℤ) → IsNumber (int_signum z)
-sign-lawful (pos n) = by_magnitude (int_signum (pos n)) (omega arith)
-sign-lawful (negsuc n) = by_magnitude (negsuc 0) (omega arith)
+sign-lawful (pos n) = IsNumber-magnitude (int_signum (pos n)) (omega arith)
+sign-lawful (negsuc n) = IsNumber-magnitude (negsuc 0) (omega arith)
 
 magnitude-lawful : (z : ℤ) → IsNumber z → IsNumber (magnitude z)
 magnitude-lawful (pos n) h = h
@@ -90,7 +71,7 @@ factorial-le n h =
     omega arith
 
 factorial-lawful : (z : ℤ) → IfSome (factorial_of z) IsNumber
-factorial-lawful (pos n) = under_test (leb n 32) (pos (factorial n)) (λ t. by_magnitude (pos (factorial n)) (factorial-le n (leb-true n 32 t)))
+factorial-lawful (pos n) = under_test (leb n 32) (pos (factorial n)) (λ t. IsNumber-magnitude (pos (factorial n)) (factorial-le n (leb-true n 32 t)))
 factorial-lawful (negsuc n) = tt
 
 pub of_number-lawful : (f : Mon) (z : ℤ) → IsNumber z → IfSome (of_number f z) IsNumber
@@ -107,13 +88,13 @@ of_number-lawful mon.Fact z h = factorial-lawful z
 quotient-number : (a : ℤ) (n : ℕ) → IsNumber a → IsNumber (int_div a (pos (suc n)))
 quotient-number (pos a) n h =
     let part : a / suc n ≤ a = div-le_self a (suc n) in
-    by_magnitude (pos (a / suc n)) (omega (arith, ints, h.most))
+    IsNumber-magnitude (pos (a / suc n)) (omega (arith, ints, h.most))
 quotient-number (negsuc a) n h =
     let part : suc a / suc n ≤ suc a = div-le_self (suc a) (suc n) in
-    neg-lawful (pos (suc a / suc n)) (by_magnitude (pos (suc a / suc n)) (omega (arith, ints, h.least)))
+    neg-lawful (pos (suc a / suc n)) (IsNumber-magnitude (pos (suc a / suc n)) (omega (arith, ints, h.least)))
 
 quotient-lawful : (a b : ℤ) → IsNumber a → IfSome (quotient a b) IsNumber
-quotient-lawful (pos zero) (pos zero) h = by_magnitude (pos 1) (omega arith)
+quotient-lawful (pos zero) (pos zero) h = IsNumber-magnitude (pos 1) (omega arith)
 quotient-lawful (pos (suc a)) (pos zero) h = tt
 quotient-lawful (negsuc a) (pos zero) h = tt
 quotient-lawful a (pos (suc b)) h = under_test (unsigned_abs a % suc b == 0) (int_div a (pos (suc b))) (λ t. quotient-number a b h)
@@ -128,7 +109,7 @@ unit-pow a n one =
 
 power-lawful : (a b : ℤ) → IfSome (power a b) IsNumber
 power-lawful a (pos n) = in_range-lawful (int_pow a n)
-power-lawful a (negsuc n) = under_test (unsigned_abs a == 1) (int_pow a (suc n)) (λ t. by_magnitude (int_pow a (suc n)) (unit-pow a (suc n) (eqb-true (unsigned_abs a) 1 t)))
+power-lawful a (negsuc n) = under_test (unsigned_abs a == 1) (int_pow a (suc n)) (λ t. IsNumber-magnitude (int_pow a (suc n)) (unit-pow a (suc n) (eqb-true (unsigned_abs a) 1 t)))
 
 rest-lawful : (a : ℕ) (b : ℤ) → suc a ≤ 10 ^ 36 → IsNumber b → IsNumber (b -ℤ (pos (suc a) *ℤ int_div_euclid b (pos (suc a))))
 rest-lawful a (pos n) size h =
@@ -142,14 +123,8 @@ rest-lawful a (negsuc n) size h =
 
 residue-lawful : (a b : ℤ) → IsNumber a → IsNumber b → IfSome (residue a b) IsNumber
 residue-lawful (pos zero) b ha hb = under_test (int_le (pos 0) b) b (λ t. hb)
-residue-lawful (pos (suc a)) b ha hb = rest-lawful a b (magnitude-le (pos (suc a)) ha) hb
-residue-lawful (negsuc a) b ha hb = rest-lawful a b (magnitude-le (negsuc a) ha) hb
-
-max-lawful : (a b : ℤ) → IsNumber a → IsNumber b → IsNumber (int_max a b)
-max-lawful a b ha hb = elim (int_lt b a) as (λ t. IsNumber (cond t a b)) [ true ↦ ha | false ↦ hb ]
-
-min-lawful : (a b : ℤ) → IsNumber a → IsNumber b → IsNumber (int_min a b)
-min-lawful a b ha hb = elim (int_lt b a) as (λ t. IsNumber (cond t b a)) [ true ↦ hb | false ↦ ha ]
+residue-lawful (pos (suc a)) b ha hb = rest-lawful a b (magnitude-IsNumber (pos (suc a)) ha) hb
+residue-lawful (negsuc a) b ha hb = rest-lawful a b (magnitude-IsNumber (negsuc a) ha) hb
 
 logical-lawful : (f : Bool → Bool → Bool) (a b : ℤ) → IfSome (logical f a b) IsNumber
 logical-lawful f a b = go (truth_value a) (truth_value b) where
@@ -164,8 +139,8 @@ of_numbers-lawful dya.Sub a b ha hb = in_range-lawful (a -ℤ b)
 of_numbers-lawful dya.Mul a b ha hb = in_range-lawful (a *ℤ b)
 of_numbers-lawful dya.Div a b ha hb = quotient-lawful a b ha
 of_numbers-lawful dya.Pow a b ha hb = power-lawful a b
-of_numbers-lawful dya.Max a b ha hb = max-lawful a b ha hb
-of_numbers-lawful dya.Min a b ha hb = min-lawful a b ha hb
+of_numbers-lawful dya.Max a b ha hb = IsNumber-int_max a b ha hb
+of_numbers-lawful dya.Min a b ha hb = IsNumber-int_min a b ha hb
 of_numbers-lawful dya.Residue a b ha hb = residue-lawful a b ha hb
 of_numbers-lawful dya.And a b ha hb = logical-lawful (λ p q. p && q) a b
 of_numbers-lawful dya.Or a b ha hb = logical-lawful (λ p q. p || q) a b
