@@ -1,13 +1,13 @@
 -- The slice of a token, read alone, is the token.
-use Rattle.std.proofs.Common.{◌≡◌, ℕ, zero, suc, ◌+◌, ◌-◌, ◌<◌, ◌≤◌, ◌==◌, Bool, true, false, cond, List, [], ◌∷◌, ◌++◌, length, take, drop, Option, None, Some, ◌⊎◌, inl, inr, ℤ, refl, sym, ap, subst, ◌∙◌, arith}
+use Rattle.std.proofs.Common.{◌≡◌, ℕ, zero, suc, ◌+◌, ◌-◌, ◌<◌, ◌≤◌, ◌==◌, Bool, true, false, cond, List, [], ◌∷◌, length, take, drop, Option, None, Some, ◌⊎◌, inl, inr, ℤ, refl, sym, ap, subst, ◌∙◌, arith}
 use Rattle.std.specs.List.{IsAmong, prefix_len}
 use Rattle.std.specs.Option.{unwrap_or, option_map}
 use Rattle.apl_base.specs.declared.faults.Cause.TheVariants as cause
 use Rattle.apl_model.proofs.Accepted.{among_cases, among_there, among_none}
 use Rattle.apl_model.proofs.TokenOrder.{InOrder, pieces_in_order, tokens_in_order}
-use Rattle.apl_model.specs.Characters.{code, is_blank, is_letter, is_name_part, begins_number, is_number_part, is_glyph, read_as, number_of}
-use Rattle.apl_model.specs.Laws.{StandInOrder, slice_of}
-use Rattle.apl_model.specs.Tokens.{Found, number, text, name, glyph, fault, Beginning, Quoted, with_character, quoted, name_at, number_at, text_at, beginning, Piece, pieces_after, number_before, tokens_of_pieces, IsSound, AreSound, IsRead}
+use Rattle.apl_model.specs.Characters.{code, is_blank, is_letter, is_name_part, begins_number, is_number_part, number_of}
+use Rattle.apl_model.specs.Laws.{StandInOrder, TokensAreSlices}
+use Rattle.apl_model.specs.Tokens.{Found, number, text, name, glyph, fault, Beginning, Quoted, with_character, quoted, name_at, number_at, text_at, beginning, Piece, pieces_after, number_before, tokens_of_pieces, IsSound, AreSound}
 use Rattle.apl_model.specs.declared.tokens.Token.{Token}
 use Rattle.apl_model.specs.declared.tokens.Word.{Word}
 use Rattle.apl_model.specs.declared.tokens.Word.TheVariants as word
@@ -335,6 +335,5 @@ slices (suc n) k [] t s m = absurd (among_none t m)
 slices (suc n) k (c ∷ cs) t s m = one_more t k c cs (slices n (k + 1) cs t s m)
 slices zero k (c ∷ cs) t s m = char_slice (is_blank c) (c == code "⍝") k c cs t refl refl s m (λ n u i. slices n (k + 1) cs t u i)
 
-pub line_slices : (line : List ℕ) (ts : List Token) (t : Token) → IsRead line ts → IsAmong ts t →
-    let ps = pieces_after 0 t.from (slice_of line t) in AreSound ps × (tokens_of_pieces ps ≡ t ∷ [])
+pub line_slices : TokensAreSlices
 line_slices line ts t r m = let x = slices 0 1 line t r.sound (subst (λ v. IsAmong v t) (sym r.same) m) in (x.1, x.2)
