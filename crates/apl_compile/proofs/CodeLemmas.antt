@@ -1,12 +1,12 @@
 -- The code of a tree does what the tree does, and goes on with its value; the code of a statement does what it does.
-use Rattle.std.proofs.Common.{◌≡◌, ℕ, zero, suc, Bool, true, false, List, [], ◌∷◌, ◌++◌, Option, Some, None, refl, ap, sym, ◌∙◌, append_assoc}
+use Rattle.std.proofs.Common.{◌≡◌, ℕ, Bool, true, false, List, [], ◌∷◌, ◌++◌, Option, Some, None, refl, ap, sym, ◌∙◌, append_assoc}
 use Rattle.std.specs.Option.{option_map}
 use Rattle.apl_base.specs.declared.faults.Place.{Place}
 use Rattle.apl_model.specs.Order.{Values, value_in, argument_in, positions_in, expression_in, flow_in, show_value, silently}
 use Rattle.apl_model.specs.Outcome.{Outcome, done, fails, spent, and_then, Flow, onwards}
 use Rattle.apl_model.specs.Tree.{Tree, Slot, Positions, Statement, constant, variable, call, parenthesis, monadic, dyadic, reduction, outer_product, inner_product, subscript, assignment, indexed_assignment, output, elided, given, no_position, position, nothing, branch, expression}
 use Rattle.apl_compile.specs.Code.{at, arguments, is_given, mask_of, expression_code, slot_code, positions_code, ending, printing, whole_code, code_on}
-use Rattle.apl_compile.specs.Execution.{Doing, comes, missing, goes_on, Taken, with_position, taken, with_result, indexed, replaced, called, called_with, exec}
+use Rattle.apl_compile.specs.Execution.{Doing, comes, goes_on, with_position, taken, with_result, indexed, replaced, called, called_with, exec}
 use Rattle.apl_compile.specs.declared.codes.Instruction.{Instruction}
 use Rattle.apl_compile.specs.declared.codes.Op.TheVariants as op
 
@@ -127,20 +127,24 @@ pub record Does {S V : Type 0} (M : Values S V) (code : List Instruction) (what 
 
 -- an argument's code, and an instruction that takes its value
 after_one : {S V : Type 0} (M : Values S V) (right : List Instruction) (what : S → Outcome S V) (last : List Instruction) (f : V → S → Outcome S V) → Does M right what → ((rest : List Instruction) (vs : List V) (to : Flow) (b : V) (t : S) → exec M (last ++ rest) (b ∷ vs) to t ≡ goes_on (f b t) (λ v u. exec M rest (v ∷ vs) to u)) → Does M (right ++ last) (λ s. and_then (what s) f)
-after_one M right what last f argument does = record { does = λ rest vs to s.
-  ap (λ c. exec M c vs to s) (append_assoc right last rest)
-  ∙ argument.does (last ++ rest) vs to s
-  ∙ code_then (what s) f (λ v u. exec M rest (v ∷ vs) to u) (λ b u. exec M (last ++ rest) (b ∷ vs) to u) (does rest vs to) }
+after_one M right what last f argument does = record {
+  does = λ rest vs to s.
+      ap (λ c. exec M c vs to s) (append_assoc right last rest)
+      ∙ argument.does (last ++ rest) vs to s
+      ∙ code_then (what s) f (λ v u. exec M rest (v ∷ vs) to u) (λ b u. exec M (last ++ rest) (b ∷ vs) to u) (does rest vs to);
+}
 
 -- the same with two: the right one's code, then the left one's
 after_two : {S V : Type 0} (M : Values S V) (right left : List Instruction) (what then : S → Outcome S V) (last : List Instruction) (f : V → V → S → Outcome S V) → Does M right what → Does M left then → ((rest : List Instruction) (vs : List V) (to : Flow) (b a : V) (u : S) → exec M (last ++ rest) (a ∷ b ∷ vs) to u ≡ goes_on (f b a u) (λ v w. exec M rest (v ∷ vs) to w)) → Does M (right ++ (left ++ last)) (λ s. and_then (what s) (λ b t. and_then (then t) (f b)))
-after_two M right left what then last f argument other does = record { does = λ rest vs to s.
-  ap (λ c. exec M c vs to s) (append_assoc right (left ++ last) rest)
-  ∙ argument.does ((left ++ last) ++ rest) vs to s
-  ∙ code_then (what s) (λ b t. and_then (then t) (f b)) (λ v u. exec M rest (v ∷ vs) to u) (λ b t. exec M ((left ++ last) ++ rest) (b ∷ vs) to t)
-    (λ b t. ap (λ c. exec M c (b ∷ vs) to t) (append_assoc left last rest)
-    ∙ other.does (last ++ rest) (b ∷ vs) to t
-    ∙ code_then (then t) (f b) (λ v u. exec M rest (v ∷ vs) to u) (λ a u. exec M (last ++ rest) (a ∷ b ∷ vs) to u) (does rest vs to b)) }
+after_two M right left what then last f argument other does = record {
+  does = λ rest vs to s.
+      ap (λ c. exec M c vs to s) (append_assoc right (left ++ last) rest)
+      ∙ argument.does ((left ++ last) ++ rest) vs to s
+      ∙ code_then (what s) (λ b t. and_then (then t) (f b)) (λ v u. exec M rest (v ∷ vs) to u) (λ b t. exec M ((left ++ last) ++ rest) (b ∷ vs) to t)
+      (λ b t. ap (λ c. exec M c (b ∷ vs) to t) (append_assoc left last rest)
+      ∙ other.does (last ++ rest) (b ∷ vs) to t
+      ∙ code_then (then t) (f b) (λ v u. exec M rest (v ∷ vs) to u) (λ a u. exec M (last ++ rest) (a ∷ b ∷ vs) to u) (does rest vs to b));
+}
 
 -- the same for an argument and for positions, which may be left out
 pub record DoesSlot {S V : Type 0} (M : Values S V) (code : List Instruction) (what : S → Outcome S (Option V)) : Type 0 where
@@ -151,64 +155,74 @@ pub record DoesPositions {S V : Type 0} (M : Values S V) (code : List Instructio
 
 module _ {S V : Type 0} (M : Values S V) where
   slot_given : (code : List Instruction) (what : S → Outcome S V) → Does M code what → DoesSlot M code (λ s. and_then (what s) (λ a u. done (Some a) u))
-  slot_given code what argument = record { does = λ rest vs to s.
-    argument.does rest vs to s
-    ∙ code_then (what s) (λ a u. done (Some a) u) (λ v u. exec M rest (with_result v vs) to u) (λ v u. exec M rest (v ∷ vs) to u) (λ a u. refl) }
+  slot_given code what argument = record {
+    does = λ rest vs to s.
+        argument.does rest vs to s
+        ∙ code_then (what s) (λ a u. done (Some a) u) (λ v u. exec M rest (with_result v vs) to u) (λ v u. exec M rest (v ∷ vs) to u) (λ a u. refl);
+  }
 
   positions_more : (q : Slot) (qs : Positions) → DoesSlot M (slot_code q) (argument_in M q) → DoesPositions M (positions_code qs) (positions_in M qs) → DoesPositions M (positions_code (position q qs)) (positions_in M (position q qs))
-  positions_more q qs one more = record { does = λ rest vs to s.
-    let k = λ (ps : List (Option V)) (u : S). exec M rest (with_positions ps vs) to u in
-    ap (λ c. exec M c vs to s) (append_assoc (positions_code qs) (slot_code q) rest)
-    ∙ more.does (slot_code q ++ rest) vs to s
-    ∙ code_then (positions_in M qs s) (λ ps t. and_then (argument_in M q t) (λ v u. done (v ∷ ps) u)) k (λ ps t. exec M (slot_code q ++ rest) (with_positions ps vs) to t)
-      (λ ps t. one.does rest (with_positions ps vs) to t
-      ∙ code_then (argument_in M q t) (λ v u. done (v ∷ ps) u) k (λ v u. exec M rest (with_result v (with_positions ps vs)) to u) (λ v u. refl)) }
+  positions_more q qs one more = record {
+    does = λ rest vs to s.
+        let k = λ (ps : List (Option V)) (u : S). exec M rest (with_positions ps vs) to u in
+        ap (λ c. exec M c vs to s) (append_assoc (positions_code qs) (slot_code q) rest)
+        ∙ more.does (slot_code q ++ rest) vs to s
+        ∙ code_then (positions_in M qs s) (λ ps t. and_then (argument_in M q t) (λ v u. done (v ∷ ps) u)) k (λ ps t. exec M (slot_code q ++ rest) (with_positions ps vs) to t)
+        (λ ps t. one.does rest (with_positions ps vs) to t
+        ∙ code_then (argument_in M q t) (λ v u. done (v ∷ ps) u) k (λ v u. exec M rest (with_result v (with_positions ps vs)) to u) (λ v u. refl));
+  }
 
   -- the arguments of a call, and what takes them
   call_with : (left right : Slot) (whole : Bool) (f : List ℕ) (place : Place) (rest : List Instruction) (vs : List V) (to : Flow) (s : S) → DoesSlot M (slot_code right) (argument_in M right) → DoesSlot M (slot_code left) (argument_in M left)
-    → exec M ((slot_code right ++ (slot_code left ++ at place (op.Call f (arguments left right) whole))) ++ rest) vs to s
-    ≡ goes_on (argument_in M right s) (λ b t. goes_on (argument_in M left t) (λ a u. called M whole f place a b vs to u (exec M rest)))
+      → exec M ((slot_code right ++ (slot_code left ++ at place (op.Call f (arguments left right) whole))) ++ rest) vs to s
+      ≡ goes_on (argument_in M right s) (λ b t. goes_on (argument_in M left t) (λ a u. called M whole f place a b vs to u (exec M rest)))
   call_with left right whole f place rest vs to s r l =
-    let last = at place (op.Call f (arguments left right) whole) in
-    ap (λ c. exec M c vs to s) (append_assoc (slot_code right) (slot_code left ++ last) rest)
-    ∙ r.does ((slot_code left ++ last) ++ rest) vs to s
-    ∙ same_on (argument_in M right s) (FitsSlot (is_given right)) _ _ (argument_fits M right s)
+      let last = at place (op.Call f (arguments left right) whole) in
+      ap (λ c. exec M c vs to s) (append_assoc (slot_code right) (slot_code left ++ last) rest)
+      ∙ r.does ((slot_code left ++ last) ++ rest) vs to s
+      ∙ same_on (argument_in M right s) (FitsSlot (is_given right)) _ _ (argument_fits M right s)
       (λ b t h. ap (λ c. exec M c (with_result b vs) to t) (append_assoc (slot_code left) last rest)
       ∙ l.does (last ++ rest) (with_result b vs) to t
       ∙ same_on (argument_in M left t) (FitsSlot (is_given left)) _ _ (argument_fits M left t)
-        (λ a u g. called-arguments M left right a b whole f place vs to u (exec M rest) g h))
+      (λ a u g. called-arguments M left right a b whole f place vs to u (exec M rest) g h))
 
   call_does : (f : List ℕ) (left right : Slot) (place : Place) → DoesSlot M (slot_code right) (argument_in M right) → DoesSlot M (slot_code left) (argument_in M left) → Does M (expression_code (call f left right place)) (value_in M (call f left right place))
-  call_does f left right place r l = record { does = λ rest vs to s.
-    let k = λ (v : V) (u : S). exec M rest (v ∷ vs) to u in
-    call_with left right false f place rest vs to s r l
-    ∙ code_then (argument_in M right s) (λ b t. and_then (argument_in M left t) (λ a u. and_then (M.calls f place a b u) (M.need place))) k (λ b t. goes_on (argument_in M left t) (λ a u. called M false f place a b vs to u (exec M rest)))
-      (λ b t. code_then (argument_in M left t) (λ a u. and_then (M.calls f place a b u) (M.need place)) k (λ a u. called M false f place a b vs to u (exec M rest))
-        (λ a u. code_then (M.calls f place a b u) (M.need place) k (λ r w. goes_on (M.need place r w) k) (λ r w. refl))) }
+  call_does f left right place r l = record {
+    does = λ rest vs to s.
+        let k = λ (v : V) (u : S). exec M rest (v ∷ vs) to u in
+        call_with left right false f place rest vs to s r l
+        ∙ code_then (argument_in M right s) (λ b t. and_then (argument_in M left t) (λ a u. and_then (M.calls f place a b u) (M.need place))) k (λ b t. goes_on (argument_in M left t) (λ a u. called M false f place a b vs to u (exec M rest)))
+        (λ b t. code_then (argument_in M left t) (λ a u. and_then (M.calls f place a b u) (M.need place)) k (λ a u. called M false f place a b vs to u (exec M rest))
+        (λ a u. code_then (M.calls f place a b u) (M.need place) k (λ r w. goes_on (M.need place r w) k) (λ r w. refl)));
+  }
 
   subscript_does : (array : Tree) (qs : Positions) (place : Place) → Does M (expression_code array) (value_in M array) → DoesPositions M (positions_code qs) (positions_in M qs) → Does M (expression_code (subscript array qs place)) (value_in M (subscript array qs place))
-  subscript_does array qs place inner ps = record { does = λ rest vs to s.
-    let k = λ (v : V) (u : S). exec M rest (v ∷ vs) to u in
-    let last = at place (op.Index (mask_of qs)) in
-    ap (λ c. exec M c vs to s) (append_assoc (positions_code qs) (expression_code array ++ last) rest)
-    ∙ ps.does ((expression_code array ++ last) ++ rest) vs to s
-    ∙ then_on (positions_in M qs s) (FitsMask (mask_of qs)) (λ vs t. and_then (value_in M array t) (λ a u. M.index a vs place u)) k (λ vs' u. exec M ((expression_code array ++ last) ++ rest) (with_positions vs' vs) to u) (positions_fit M qs s)
-      (λ vs' t h. ap (λ c. exec M c (with_positions vs' vs) to t) (append_assoc (expression_code array) last rest)
-      ∙ inner.does (last ++ rest) (with_positions vs' vs) to t
-      ∙ code_then (value_in M array t) (λ a u. M.index a vs' place u) k (λ a u. exec M (last ++ rest) (a ∷ with_positions vs' vs) to u)
-        (λ a u. ap (λ found. indexed M place a found to u (exec M rest)) (taken-positions (mask_of qs) vs' vs h))) }
+  subscript_does array qs place inner ps = record {
+    does = λ rest vs to s.
+        let k = λ (v : V) (u : S). exec M rest (v ∷ vs) to u in
+        let last = at place (op.Index (mask_of qs)) in
+        ap (λ c. exec M c vs to s) (append_assoc (positions_code qs) (expression_code array ++ last) rest)
+        ∙ ps.does ((expression_code array ++ last) ++ rest) vs to s
+        ∙ then_on (positions_in M qs s) (FitsMask (mask_of qs)) (λ vs t. and_then (value_in M array t) (λ a u. M.index a vs place u)) k (λ vs' u. exec M ((expression_code array ++ last) ++ rest) (with_positions vs' vs) to u) (positions_fit M qs s)
+        (λ vs' t h. ap (λ c. exec M c (with_positions vs' vs) to t) (append_assoc (expression_code array) last rest)
+        ∙ inner.does (last ++ rest) (with_positions vs' vs) to t
+        ∙ code_then (value_in M array t) (λ a u. M.index a vs' place u) k (λ a u. exec M (last ++ rest) (a ∷ with_positions vs' vs) to u)
+        (λ a u. ap (λ found. indexed M place a found to u (exec M rest)) (taken-positions (mask_of qs) vs' vs h)));
+  }
 
   replace_does : (name : List ℕ) (qs : Positions) (value : Tree) (place : Place) → Does M (expression_code value) (value_in M value) → DoesPositions M (positions_code qs) (positions_in M qs) → Does M (expression_code (indexed_assignment name qs value place)) (value_in M (indexed_assignment name qs value place))
-  replace_does name qs value place inner ps = record { does = λ rest vs to s.
-    let k = λ (v : V) (u : S). exec M rest (v ∷ vs) to u in
-    let last = at place (op.Iasg name (mask_of qs)) in
-    ap (λ c. exec M c vs to s) (append_assoc (expression_code value) (positions_code qs ++ last) rest)
-    ∙ inner.does ((positions_code qs ++ last) ++ rest) vs to s
-    ∙ code_then (value_in M value s) (λ b t. and_then (positions_in M qs t) (λ vs u. M.replace name vs b place u)) k (λ b u. exec M ((positions_code qs ++ last) ++ rest) (b ∷ vs) to u)
-      (λ b t. ap (λ c. exec M c (b ∷ vs) to t) (append_assoc (positions_code qs) last rest)
-      ∙ ps.does (last ++ rest) (b ∷ vs) to t
-      ∙ then_on (positions_in M qs t) (FitsMask (mask_of qs)) (λ vs u. M.replace name vs b place u) k (λ vs' u. exec M (last ++ rest) (with_positions vs' (b ∷ vs)) to u) (positions_fit M qs t)
-        (λ vs' u h. ap (λ found. replaced M name place found to u (exec M rest)) (taken-positions (mask_of qs) vs' (b ∷ vs) h))) }
+  replace_does name qs value place inner ps = record {
+    does = λ rest vs to s.
+        let k = λ (v : V) (u : S). exec M rest (v ∷ vs) to u in
+        let last = at place (op.Iasg name (mask_of qs)) in
+        ap (λ c. exec M c vs to s) (append_assoc (expression_code value) (positions_code qs ++ last) rest)
+        ∙ inner.does ((positions_code qs ++ last) ++ rest) vs to s
+        ∙ code_then (value_in M value s) (λ b t. and_then (positions_in M qs t) (λ vs u. M.replace name vs b place u)) k (λ b u. exec M ((positions_code qs ++ last) ++ rest) (b ∷ vs) to u)
+        (λ b t. ap (λ c. exec M c (b ∷ vs) to t) (append_assoc (positions_code qs) last rest)
+        ∙ ps.does (last ++ rest) (b ∷ vs) to t
+        ∙ then_on (positions_in M qs t) (FitsMask (mask_of qs)) (λ vs u. M.replace name vs b place u) k (λ vs' u. exec M (last ++ rest) (with_positions vs' (b ∷ vs)) to u) (positions_fit M qs t)
+        (λ vs' u h. ap (λ found. replaced M name place found to u (exec M rest)) (taken-positions (mask_of qs) vs' (b ∷ vs) h)));
+  }
 
   mutual
     -- the code of an expression does what evaluation does, and goes on with its value
@@ -240,13 +254,13 @@ module _ {S V : Type 0} (M : Values S V) where
   -- an expression whose value is printed, and one after which nothing is
   printed_whole : (t : Tree) (line : ℕ) (s : S) → exec M (expression_code t ++ printing line) [] onwards s ≡ comes (and_then (value_in M t s) (show_value M))
   printed_whole t line s =
-    (code_does t).does (printing line) [] onwards s
-    ∙ ends_then (value_in M t s) (show_value M) (λ v u. exec M (printing line) (v ∷ []) onwards u) (λ v u. comes_of (M.show (Some v) u))
+      (code_does t).does (printing line) [] onwards s
+      ∙ ends_then (value_in M t s) (show_value M) (λ v u. exec M (printing line) (v ∷ []) onwards u) (λ v u. comes_of (M.show (Some v) u))
 
   silent_whole : (t : Tree) (line : ℕ) (s : S) → exec M (expression_code t ++ ending line) [] onwards s ≡ comes (and_then (value_in M t s) silently)
   silent_whole t line s =
-    (code_does t).does (ending line) [] onwards s
-    ∙ ends_then (value_in M t s) silently (λ v u. exec M (ending line) (v ∷ []) onwards u) (λ v u. refl)
+      (code_does t).does (ending line) [] onwards s
+      ∙ ends_then (value_in M t s) silently (λ v u. exec M (ending line) (v ∷ []) onwards u) (λ v u. refl)
 
   -- after a call that is the whole statement there may be a result or none
   shown_result : (r : Option V) (line : ℕ) (u : S) → exec M (printing line) (with_result r []) onwards u ≡ comes (M.show r u)
@@ -255,11 +269,11 @@ module _ {S V : Type 0} (M : Values S V) where
 
   call_whole : (f : List ℕ) (left right : Slot) (place : Place) (line : ℕ) (s : S) → exec M (whole_code line (call f left right place)) [] onwards s ≡ comes (expression_in M (call f left right place) s)
   call_whole f left right place line s =
-    ap (λ c. exec M c [] onwards s) (regrouped (slot_code right) (slot_code left) (at place (op.Call f (arguments left right) true)) (printing line))
-    ∙ call_with left right true f place (printing line) [] onwards s (slot_does right) (slot_does left)
-    ∙ ends_then (argument_in M right s) (λ b t. and_then (argument_in M left t) (λ a u. and_then (M.calls f place a b u) M.show)) (λ b t. goes_on (argument_in M left t) (λ a u. called M true f place a b [] onwards u (exec M (printing line))))
+      ap (λ c. exec M c [] onwards s) (regrouped (slot_code right) (slot_code left) (at place (op.Call f (arguments left right) true)) (printing line))
+      ∙ call_with left right true f place (printing line) [] onwards s (slot_does right) (slot_does left)
+      ∙ ends_then (argument_in M right s) (λ b t. and_then (argument_in M left t) (λ a u. and_then (M.calls f place a b u) M.show)) (λ b t. goes_on (argument_in M left t) (λ a u. called M true f place a b [] onwards u (exec M (printing line))))
       (λ b t. ends_then (argument_in M left t) (λ a u. and_then (M.calls f place a b u) M.show) (λ a u. called M true f place a b [] onwards u (exec M (printing line)))
-        (λ a u. ends_then (M.calls f place a b u) M.show (λ r w. exec M (printing line) (with_result r []) onwards w) (λ r w. shown_result r line w)))
+      (λ a u. ends_then (M.calls f place a b u) M.show (λ r w. exec M (printing line) (with_result r []) onwards w) (λ r w. shown_result r line w)))
 
   pub expression_whole : (t : Tree) (line : ℕ) (s : S) → exec M (whole_code line t) [] onwards s ≡ comes (expression_in M t s)
   expression_whole (call f left right place) line s = call_whole f left right place line s
@@ -280,6 +294,6 @@ module _ {S V : Type 0} (M : Values S V) where
   pub statement_does : (st : Statement) (line : ℕ) (s : S) → exec M (code_on line st) [] onwards s ≡ comes (flow_in M st s)
   statement_does nothing line s = refl
   statement_does (branch value place) line s =
-    (code_does value).does (at place op.Goto ++ ending line) [] onwards s
-    ∙ ends_then (value_in M value s) (M.branch place) (λ a u. exec M (at place op.Goto ++ ending line) (a ∷ []) onwards u) (λ a u. comes_of (M.branch place a u))
+      (code_does value).does (at place op.Goto ++ ending line) [] onwards s
+      ∙ ends_then (value_in M value s) (M.branch place) (λ a u. exec M (at place op.Goto ++ ending line) (a ∷ []) onwards u) (λ a u. comes_of (M.branch place a u))
   statement_does (expression value) line s = expression_whole value line s

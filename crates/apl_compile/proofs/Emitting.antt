@@ -1,5 +1,5 @@
 -- Instructions put behind others, and the code and the mask of positions.
-use Rattle.std.proofs.Common.{◌≡◌, ℕ, ◌+◌, ◌<◌, zero, suc, Bool, true, false, List, [], ◌∷◌, ◌++◌, map, drop, length, Option, Some, None, Result, OnOk, is_some, slice_get, refl, ap, sym, ◌∙◌, append_assoc, get_or, add-one, drop-cons}
+use Rattle.std.proofs.Common.{◌≡◌, ℕ, ◌+◌, ◌<◌, suc, Bool, true, false, List, [], ◌∷◌, ◌++◌, map, drop, length, Option, Some, None, Result, OnOk, is_some, refl, ap, sym, ◌∙◌, append_assoc, get_or, add-one, drop-cons}
 use Rattle.std.proofs.lemmas.Result.{on_ok_weaker}
 use Rattle.apl_base.specs.declared.faults.Place.{Place}
 use Rattle.apl_model.proofs.Bridge.{slot_with, positions_with, tree-index, tree-assign, tree-index_assign, tree-output}

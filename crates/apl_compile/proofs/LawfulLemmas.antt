@@ -4,12 +4,12 @@ use Rattle.std.specs.Option.{option_map, option_and_then}
 use Rattle.apl_base.specs.declared.faults.Place.{Place}
 use Rattle.apl_model.specs.Order.{Values}
 use Rattle.apl_model.specs.Outcome.{Outcome, done, fails, spent, Flow, onwards}
-use Rattle.apl_model.specs.Tree.{Tree, Slot, Positions, Statement, constant, variable, call, parenthesis, monadic, dyadic, reduction, outer_product, inner_product, subscript, assignment, indexed_assignment, output, elided, given, no_position, position, nothing, branch, expression}
+use Rattle.apl_model.specs.Tree.{Tree, Slot, Positions, constant, variable, call, parenthesis, monadic, dyadic, reduction, outer_product, inner_product, subscript, assignment, indexed_assignment, output, elided, given, no_position, position, nothing, branch, expression}
 use Rattle.apl_compile.specs.declared.codes.Instruction.{Instruction}
 use Rattle.apl_compile.specs.declared.codes.Op.{Op}
 use Rattle.apl_compile.specs.declared.codes.Op.TheVariants as op
-use Rattle.apl_compile.specs.Code.{at, arguments, mask_of, expression_code, slot_code, positions_code, ending, printing, whole_code, code_on}
-use Rattle.apl_compile.specs.Execution.{Doing, comes, missing, goes_on, Taken, with_position, taken, newest, others, with_result, put, indexed, replaced_by, replaced, called, called_with, act, exec}
+use Rattle.apl_compile.specs.Code.{at, arguments, mask_of, expression_code, slot_code, positions_code, ending, printing, whole_code}
+use Rattle.apl_compile.specs.Execution.{Doing, missing, goes_on, Taken, with_position, taken, with_result, put, indexed, replaced_by, replaced, called, called_with, act, exec}
 use Rattle.apl_compile.specs.Lawful.{Operands, just, result_or_none, ended, less, with_value, after_call, after, after_code, Leads, IsLawfulCode, StatementsAreLawful, LawfulCodeHasOperands}
 
 -- ---- lawful code has its operands
@@ -69,9 +69,9 @@ module _ {S V : Type 0} (M : Values S V) where
   index_present : (mask : List Bool) (place : Place) (n : ℕ) (left : Option ℕ) (to : Operands) (a : V) (vs : List V) (flow : Flow) (s : S) (next : List V → Flow → S → Doing S Flow) → less mask n ≡ left → after (op.Index mask) (just (suc n)) ≡ Some to → HasValues n vs → Present (after (op.Index mask) (just (suc n))) next → act M (op.Index mask) place (a ∷ vs) flow s next ≢ missing
   index_present mask place n None to a vs flow s next e there fits h = absurd (none_is_some to (sym (ap (option_map (λ k. just (suc k))) e) ∙ there))
   index_present mask place n (Some k) to a vs flow s next e there fits h =
-    let t = takes mask n k vs fits e in
-    subst (λ x. indexed M place a x flow s next ≢ missing) (sym t.is)
-    (goes_on-present (M.index a t.what.positions place s) (put M t.what.left flow next) (λ v u. h (just (suc k)) (ap (option_map (λ m. just (suc m))) e) (v ∷ t.what.left) flow u t.left))
+      let t = takes mask n k vs fits e in
+      subst (λ x. indexed M place a x flow s next ≢ missing) (sym t.is)
+      (goes_on-present (M.index a t.what.positions place s) (put M t.what.left flow next) (λ v u. h (just (suc k)) (ap (option_map (λ m. just (suc m))) e) (v ∷ t.what.left) flow u t.left))
 
   replace_present : (name : List ℕ) (place : Place) (ps : List (Option V)) (left : List V) (k : ℕ) (flow : Flow) (s : S) (next : List V → Flow → S → Doing S Flow) → HasValues (suc k) left → ((ws : List V) (f : Flow) (t : S) → HasValues (suc k) ws → next ws f t ≢ missing) → replaced_by M name place ps left flow s next ≢ missing
   replace_present name place ps [] k flow s next fits h = absurd fits
@@ -81,13 +81,13 @@ module _ {S V : Type 0} (M : Values S V) where
   assign_present name mask place n None to vs flow s next e there fits h = absurd (none_is_some to (sym (ap with_value e) ∙ there))
   assign_present name mask place n (Some zero) to vs flow s next e there fits h = absurd (none_is_some to (sym (ap with_value e) ∙ there))
   assign_present name mask place n (Some (suc k)) to vs flow s next e there fits h =
-    let t = takes mask n (suc k) vs fits e in
-    subst (λ x. replaced M name place x flow s next ≢ missing) (sym t.is)
-    (replace_present name place t.what.positions t.what.left k flow s next t.left (λ ws f u g. h (just (suc k)) (ap with_value e) ws f u g))
+      let t = takes mask n (suc k) vs fits e in
+      subst (λ x. replaced M name place x flow s next ≢ missing) (sym t.is)
+      (replace_present name place t.what.positions t.what.left k flow s next t.left (λ ws f u g. h (just (suc k)) (ap with_value e) ws f u g))
 
   called_present : (f : List ℕ) (place : Place) (a b : Option V) (vs : List V) (n : ℕ) (flow : Flow) (s : S) (next : List V → Flow → S → Doing S Flow) → HasValues n vs → ((ws : List V) (g : Flow) (t : S) → HasValues (suc n) ws → next ws g t ≢ missing) → called M false f place a b vs flow s next ≢ missing
   called_present f place a b vs n flow s next fits h =
-    goes_on-present (M.calls f place a b s) (λ r t. goes_on (M.need place r t) (put M vs flow next)) (λ r t. goes_on-present (M.need place r t) (put M vs flow next) (λ v u. h (v ∷ vs) flow u fits))
+      goes_on-present (M.calls f place a b s) (λ r t. goes_on (M.need place r t) (put M vs flow next)) (λ r t. goes_on-present (M.need place r t) (put M vs flow next) (λ v u. h (v ∷ vs) flow u fits))
 
   result_fits : (r : Option V) → Fits result_or_none (with_result r [])
   result_fits None = tt
@@ -219,9 +219,9 @@ module _ {S V : Type 0} (M : Values S V) where
   code_present [] result_or_none vs flow s leads fits = absurd (call_is_ended leads)
   code_present [] ended vs flow s leads fits = absurd fits
   code_present (i ∷ is) found vs flow s leads fits =
-    let p = parts_of (after i.op found) (after_code is) ended leads in
-    act_present i.op i.place found p.0 vs flow s (exec M is) p.1 fits
-    (λ to e ws f t g. code_present is to ws f t (subst (λ x. after_code is x ≡ Some ended) (some_same p.0 to (sym p.1 ∙ e)) p.2) g)
+      let p = parts_of (after i.op found) (after_code is) ended leads in
+      act_present i.op i.place found p.0 vs flow s (exec M is) p.1 fits
+      (λ to e ws f t g. code_present is to ws f t (subst (λ x. after_code is x ≡ Some ended) (some_same p.0 to (sym p.1 ∙ e)) p.2) g)
 
 pub lawful_code_has_operands : (S V : Type 0) → LawfulCodeHasOperands S V
 lawful_code_has_operands S V M code s lawful = code_present M code (just 0) [] onwards s lawful tt
@@ -265,10 +265,10 @@ mutual
   one_more (constant l p) rest n = refl
   one_more (variable m p) rest n = refl
   one_more (call f left right p) rest n =
-    let last = at p (op.Call f (arguments left right) false) in
-    assoc_after (slot_code right) (slot_code left ++ last) rest (just n) ∙ slot_more right ((slot_code left ++ last) ++ rest) n
-    ∙ assoc_after (slot_code left) last rest (just (with_slot right n)) ∙ slot_more left (last ++ rest) (with_slot right n)
-    ∙ after_last rest n (after_call (arguments left right) false (with_slot left (with_slot right n))) (call-leaves left right n)
+      let last = at p (op.Call f (arguments left right) false) in
+      assoc_after (slot_code right) (slot_code left ++ last) rest (just n) ∙ slot_more right ((slot_code left ++ last) ++ rest) n
+      ∙ assoc_after (slot_code left) last rest (just (with_slot right n)) ∙ slot_more left (last ++ rest) (with_slot right n)
+      ∙ after_last rest n (after_call (arguments left right) false (with_slot left (with_slot right n))) (call-leaves left right n)
   one_more (parenthesis inner p) rest n = one_more inner rest n
   one_more (monadic f right p) rest n = assoc_after (expression_code right) (at p (op.Mon f)) rest (just n) ∙ one_more right (at p (op.Mon f) ++ rest) n
   one_more (dyadic f left right p) rest n = assoc_after (expression_code right) (expression_code left ++ at p (op.Dya f)) rest (just n) ∙ one_more right ((expression_code left ++ at p (op.Dya f)) ++ rest) n ∙ assoc_after (expression_code left) (at p (op.Dya f)) rest (just (suc n)) ∙ one_more left (at p (op.Dya f) ++ rest) (suc n)
@@ -276,16 +276,16 @@ mutual
   one_more (outer_product f left right p) rest n = assoc_after (expression_code right) (expression_code left ++ at p (op.Outer f)) rest (just n) ∙ one_more right ((expression_code left ++ at p (op.Outer f)) ++ rest) n ∙ assoc_after (expression_code left) (at p (op.Outer f)) rest (just (suc n)) ∙ one_more left (at p (op.Outer f) ++ rest) (suc n)
   one_more (inner_product f g left right p) rest n = assoc_after (expression_code right) (expression_code left ++ at p (op.Inner f g)) rest (just n) ∙ one_more right ((expression_code left ++ at p (op.Inner f g)) ++ rest) n ∙ assoc_after (expression_code left) (at p (op.Inner f g)) rest (just (suc n)) ∙ one_more left (at p (op.Inner f g) ++ rest) (suc n)
   one_more (subscript array qs p) rest n =
-    let last = at p (op.Index (mask_of qs)) in
-    assoc_after (positions_code qs) (expression_code array ++ last) rest (just n) ∙ slots_more qs ((expression_code array ++ last) ++ rest) n
-    ∙ assoc_after (expression_code array) last rest (just (with_slots qs n)) ∙ one_more array (last ++ rest) (with_slots qs n)
-    ∙ after_last rest n (option_map (λ k. just (suc k)) (less (mask_of qs) (with_slots qs n))) (ap (option_map (λ k. just (suc k))) (less-slots qs n))
+      let last = at p (op.Index (mask_of qs)) in
+      assoc_after (positions_code qs) (expression_code array ++ last) rest (just n) ∙ slots_more qs ((expression_code array ++ last) ++ rest) n
+      ∙ assoc_after (expression_code array) last rest (just (with_slots qs n)) ∙ one_more array (last ++ rest) (with_slots qs n)
+      ∙ after_last rest n (option_map (λ k. just (suc k)) (less (mask_of qs) (with_slots qs n))) (ap (option_map (λ k. just (suc k))) (less-slots qs n))
   one_more (assignment m value p) rest n = assoc_after (expression_code value) (at p (op.Asg m)) rest (just n) ∙ one_more value (at p (op.Asg m) ++ rest) n
   one_more (indexed_assignment m qs value p) rest n =
-    let last = at p (op.Iasg m (mask_of qs)) in
-    assoc_after (expression_code value) (positions_code qs ++ last) rest (just n) ∙ one_more value ((positions_code qs ++ last) ++ rest) n
-    ∙ assoc_after (positions_code qs) last rest (just (suc n)) ∙ slots_more qs (last ++ rest) (suc n)
-    ∙ after_last rest n (with_value (less (mask_of qs) (with_slots qs (suc n)))) (ap with_value (less-slots qs (suc n)))
+      let last = at p (op.Iasg m (mask_of qs)) in
+      assoc_after (expression_code value) (positions_code qs ++ last) rest (just n) ∙ one_more value ((positions_code qs ++ last) ++ rest) n
+      ∙ assoc_after (positions_code qs) last rest (just (suc n)) ∙ slots_more qs (last ++ rest) (suc n)
+      ∙ after_last rest n (with_value (less (mask_of qs) (with_slots qs (suc n)))) (ap with_value (less-slots qs (suc n)))
   one_more (output value p) rest n = assoc_after (expression_code value) (at p op.Show) rest (just n) ∙ one_more value (at p op.Show ++ rest) n
 
   slot_more : (q : Slot) (rest : List Instruction) (n : ℕ) → after_code (slot_code q ++ rest) (just n) ≡ after_code rest (just (with_slot q n))

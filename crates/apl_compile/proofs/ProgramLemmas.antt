@@ -1,27 +1,26 @@
 -- The run of a compiled program is that of its script.
-use Rattle.std.proofs.Common.{◌≡◌, ℕ, zero, suc, ◌==◌, true, false, not, Bool, cond, ◌+◌, List, [], ◌∷◌, ◌++◌, drop, length, nat_lt, map, Option, Some, None, refl, ap, sym, ◌∙◌}
+use Rattle.std.proofs.Common.{◌≡◌, ℕ, suc, ◌==◌, true, false, not, cond, ◌+◌, List, [], ◌∷◌, ◌++◌, drop, length, nat_lt, map, Option, Some, None, refl, ap, sym, ◌∙◌}
 use Rattle.std.specs.List.{find, filter_map, position, position_or_len}
 use Rattle.std.specs.Option.{option_map, unwrap_or}
 use Rattle.apl_base.specs.declared.faults.ErrorKind.{ErrorKind}
 use Rattle.apl_base.specs.declared.faults.Place.{Place}
 use Rattle.apl_model.proofs.Agreement.{translated_runs_agree}
 use Rattle.apl_model.specs.Agreement.{mapped_line, mapped_routine, mapped_step}
-use Rattle.apl_model.specs.Call.{Routine, RoutineLine, States, calls_of}
+use Rattle.apl_model.specs.Call.{Routine, RoutineLine, calls_of}
 use Rattle.apl_model.specs.Evaluation.{State, of_arrays}
 use Rattle.apl_base.specs.Array.{Array}
-use Rattle.apl_model.specs.Immediate.{Run, Step, statement_step, command_step, run_steps, well, prefix_or, prefix_in, line_text, report, routine, routine_line, step_of, definition_in, definitions_of, of_states, beginning, immediate, told}
-use Rattle.apl_model.specs.Order.{CallsOf, Values, value_in, flow_in}
-use Rattle.apl_model.specs.Outcome.{Outcome, Flow, onwards}
-use Rattle.apl_model.specs.Printed.{plain_prefix, report_text}
+use Rattle.apl_model.specs.Immediate.{Step, statement_step, command_step, run_steps, well, prefix_or, prefix_in, report, routine, routine_line, step_of, definition_in, definitions_of, of_states, beginning, told}
+use Rattle.apl_model.specs.Order.{CallsOf, Values, flow_in}
+use Rattle.apl_model.specs.Outcome.{Outcome, Flow}
+use Rattle.apl_model.specs.Printed.{report_text}
 use Rattle.apl_model.specs.Tree.{BodyLine, Definition, Item, Script, Statement, statement_item, command_item, definition_item}
 use Rattle.apl_model.specs.declared.tokens.Line.{Line}
 use Rattle.apl_compile.specs.declared.codes.Code.{Code}
-use Rattle.apl_compile.specs.Code.{code_on}
-use Rattle.apl_compile.specs.Execution.{code_flow, stopping, exec}
-use Rattle.apl_compile.specs.Laws.{tree_meaning, run_script, CodeDoes, StatementCodeDoes, ProgramDoes, ImmediateIsRun, OneReport, ReportsOfOutline}
-use Rattle.apl_compile.specs.Program.{ProgramView, program_of, outline_of, outline_item, outline_body, outline_line, compiled, codes_in, codes_of}
-use Rattle.apl_compile.specs.Running.{lines_with, routines_from, steps_from, function_of, line_text_in, prefix_from, report_in, code_meaning, run_program}
-use Rattle.apl_compile.proofs.CodeLemmas.{Does, code_does, statement_does}
+use Rattle.apl_compile.specs.Execution.{stopping}
+use Rattle.apl_compile.specs.Laws.{tree_meaning, CodeDoes, StatementCodeDoes, ProgramDoes, ImmediateIsRun, OneReport, ReportsOfOutline}
+use Rattle.apl_compile.specs.Program.{outline_of, outline_item, outline_body, outline_line, compiled, codes_of}
+use Rattle.apl_compile.specs.Running.{lines_with, routines_from, steps_from, function_of, line_text_in, prefix_from, report_in, code_meaning}
+use Rattle.apl_compile.proofs.CodeLemmas.{code_does, statement_does}
 
 pub code_does_law : (S V : Type 0) → CodeDoes S V
 code_does_law S V M t rest vs to s = (code_does M t).does rest vs to s

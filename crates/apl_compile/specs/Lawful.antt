@@ -2,7 +2,7 @@
 use Rattle.std.specs.Prelude.{◌≡◌, ◌≢◌, ℕ, zero, suc, Bool, true, false, List, [], ◌∷◌, Option, Some, None}
 use Rattle.std.specs.Option.{option_map, option_and_then}
 use Rattle.apl_model.specs.Order.{Values}
-use Rattle.apl_model.specs.Outcome.{Flow, onwards}
+use Rattle.apl_model.specs.Outcome.{onwards}
 use Rattle.apl_model.specs.Tree.{Statement}
 use Rattle.apl_compile.specs.declared.codes.Instruction.{Instruction}
 use Rattle.apl_compile.specs.declared.codes.Op.{Op}

@@ -1,19 +1,20 @@
 -- The laws of code, each of which a public function's contract states.
-use Rattle.std.specs.Prelude.{◌≡◌, ℕ, List, [], ◌∷◌, ◌++◌, map}
+use Rattle.std.specs.Prelude.{◌≡◌, ℕ, List, ◌∷◌, ◌++◌, map, [], Option, Some, None}
 use Rattle.std.specs.List.{filter_map}
 use Rattle.apl_base.specs.declared.faults.ErrorKind.{ErrorKind}
 use Rattle.apl_base.specs.declared.faults.Place.{Place}
-use Rattle.apl_model.specs.Call.{States, calls_of}
+use Rattle.apl_model.specs.Call.{Routine, RoutineLine, States, calls_of}
 use Rattle.apl_model.specs.Evaluation.{of_arrays}
-use Rattle.apl_model.specs.Immediate.{Run, run_steps, well, routine, step_of, definitions_of, report, of_states, beginning, immediate, told}
+use Rattle.apl_model.specs.Immediate.{Run, Step, statement_step, command_step, run_steps, well, routine, step_of, definitions_of, report, of_states, beginning, immediate, told}
 use Rattle.apl_model.specs.Order.{CallsOf, Values, value_in, flow_in}
 use Rattle.apl_model.specs.Outcome.{Outcome, Flow}
-use Rattle.apl_model.specs.Tree.{Tree, Statement, Script}
+use Rattle.apl_model.specs.Tree.{Tree, Statement, Script, Item, Definition, BodyLine, statement_item, command_item, definition_item}
+use Rattle.apl_compile.specs.declared.codes.Code.{Code}
 use Rattle.apl_compile.specs.declared.codes.Instruction.{Instruction}
 use Rattle.apl_compile.specs.Code.{expression_code, code_on}
 use Rattle.apl_compile.specs.Execution.{goes_on, exec, code_flow}
-use Rattle.apl_compile.specs.Program.{program_of}
-use Rattle.apl_compile.specs.Running.{report_in, run_program}
+use Rattle.apl_compile.specs.Program.{compiled, program_of}
+use Rattle.apl_compile.specs.Running.{report_in, routines_in, run_program, steps_in}
 
 -- the code of an expression, with any code after it, does what the expression does, and goes on with its value
 abbrev pub CodeDoes : (S V : Type 0) → Type 0
@@ -51,3 +52,41 @@ OneReport = (script other : Script) (kind : ErrorKind) (place : Place) → progr
 -- and they are those of the program's outline
 abbrev pub ReportsOfOutline : Type 0
 ReportsOfOutline = (script : Script) (kind : ErrorKind) (place : Place) → report_in (program_of script).outline kind place ≡ report script kind place
+
+-- ---- a script with its codes
+
+abbrev pub coded_line : BodyLine → RoutineLine Code
+coded_line l = record { line = l.line; label = l.label; statement = compiled l.line l.statement }
+
+abbrev pub coded_routine : Definition → Routine Code
+coded_routine d = record { header = d.header; body = map coded_line d.body }
+
+abbrev pub coded_step : Item → Option (Step Code)
+coded_step (statement_item line t) = Some (statement_step line (compiled line t))
+coded_step (command_item line c) = Some (command_step c)
+coded_step (definition_item d) = None
+
+-- a program's functions are the script's definitions, each line with the code of its statement
+abbrev pub RoutinesAreCoded : Type 0
+RoutinesAreCoded = (script : Script) → routines_in (program_of script) ≡ map coded_routine (definitions_of script.items)
+
+-- and its steps are the script's statements and commands
+abbrev pub StepsAreCoded : Type 0
+StepsAreCoded = (script : Script) → steps_in (program_of script) ≡ filter_map coded_step script.items
+
+-- the statements of an item, and of items, in order, each with its line
+abbrev pub statements_at : Item → List (ℕ × Statement)
+statements_at (statement_item line t) = (line, t) ∷ []
+statements_at (command_item line c) = []
+statements_at (definition_item d) = map (λ l. (l.line, l.statement)) d.body
+
+abbrev pub statements_of : List Item → List (ℕ × Statement)
+statements_of [] = []
+statements_of (i ∷ is) = statements_at i ++ statements_of is
+
+abbrev pub code_at : ℕ × Statement → Code
+code_at p = compiled p.0 p.1
+
+-- the codes are those of the statements, one after the other
+abbrev pub CodesAreInOrder : Type 0
+CodesAreInOrder = (script : Script) → (program_of script).codes ≡ map code_at (statements_of script.items)

@@ -1,6 +1,9 @@
 pub mod Code
+pub mod Examples
 pub mod Execution
 pub mod Lawful
 pub mod Laws
+pub mod Lookups
 pub mod Program
 pub mod Running
+pub mod Tables

@@ -1,6 +1,6 @@
 -- What a compiled program means: its routines, its steps and its reports, which are told by its outline and its codes
 -- alone, and its run.
-use Rattle.std.specs.Prelude.{ℕ, ◌==◌, List, [], ◌∷◌, drop, length, map, Option, Some, None}
+use Rattle.std.specs.Prelude.{ℕ, ◌==◌, List, [], ◌∷◌, drop, length, Option, Some, None}
 use Rattle.std.specs.List.{find, filter_map, position}
 use Rattle.std.specs.Option.{option_map, unwrap_or}
 use Rattle.apl_base.specs.declared.faults.ErrorKind.{ErrorKind}

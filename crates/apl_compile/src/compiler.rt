@@ -48,14 +48,23 @@ fn emit_whole(
     ensures { OnOk result (code.new ≡ code.old ++ whole_code line (tree_of e.now)) }
 {
     match e {
-        Expr::Call { f, left, right, place } => {
+        Expr::Call {
+            f,
+            left,
+            right,
+            place,
+        } => {
             emit_argument(alloc, right, code)?;
             emit_argument(alloc, left, code)?;
-            put(code, *place, Op::Call {
-                f: f.copy(alloc)?,
-                arguments: argument_count(left, right),
-                whole: true,
-            })?;
+            put(
+                code,
+                *place,
+                Op::Call {
+                    f: f.copy(alloc)?,
+                    arguments: argument_count(left, right),
+                    whole: true,
+                },
+            )?;
             put_print(line, code)
         }
         Expr::Assign { .. } | Expr::IndexAssign { .. } | Expr::Output { .. } => {

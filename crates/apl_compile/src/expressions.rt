@@ -19,56 +19,117 @@ pub(crate) fn emit(alloc: Global, e: &Expr, code: &mut Items<Instruction>) -> Re
 {
     match e {
         Expr::Lit { literal, place } => put(code, *place, literal_op(alloc, literal)?),
-        Expr::Name { name, place } => put(code, *place, Op::Name { name: name.copy(alloc)? }),
-        Expr::Call { f, left, right, place } => {
+        Expr::Name { name, place } => put(
+            code,
+            *place,
+            Op::Name {
+                name: name.copy(alloc)?,
+            },
+        ),
+        Expr::Call {
+            f,
+            left,
+            right,
+            place,
+        } => {
             emit_argument(alloc, right, code)?;
             emit_argument(alloc, left, code)?;
-            put(code, *place, Op::Call {
-                f: f.copy(alloc)?,
-                arguments: argument_count(left, right),
-                whole: false,
-            })
+            put(
+                code,
+                *place,
+                Op::Call {
+                    f: f.copy(alloc)?,
+                    arguments: argument_count(left, right),
+                    whole: false,
+                },
+            )
         }
         Expr::Paren { inner, .. } => emit(alloc, inner.get(), code),
         Expr::One { f, right, place } => {
             emit(alloc, right.get(), code)?;
             put(code, *place, Op::Mon { f: *f })
         }
-        Expr::Two { f, left, right, place } => {
+        Expr::Two {
+            f,
+            left,
+            right,
+            place,
+        } => {
             emit(alloc, right.get(), code)?;
             emit(alloc, left.get(), code)?;
             put(code, *place, Op::Dya { f: *f })
         }
-        Expr::Reduce { f, axis, right, place } => {
+        Expr::Reduce {
+            f,
+            axis,
+            right,
+            place,
+        } => {
             emit(alloc, right.get(), code)?;
             put(code, *place, Op::Red { f: *f, axis: *axis })
         }
-        Expr::Outer { f, left, right, place } => {
+        Expr::Outer {
+            f,
+            left,
+            right,
+            place,
+        } => {
             emit(alloc, right.get(), code)?;
             emit(alloc, left.get(), code)?;
             put(code, *place, Op::Outer { f: *f })
         }
-        Expr::Inner { f, g, left, right, place } => {
+        Expr::Inner {
+            f,
+            g,
+            left,
+            right,
+            place,
+        } => {
             emit(alloc, right.get(), code)?;
             emit(alloc, left.get(), code)?;
             put(code, *place, Op::Inner { f: *f, g: *g })
         }
-        Expr::Index { array, positions, place } => {
+        Expr::Index {
+            array,
+            positions,
+            place,
+        } => {
             emit_positions(alloc, positions.as_slice(), code)?;
             emit(alloc, array.get(), code)?;
-            put(code, *place, Op::Index { mask: mask_of(alloc, positions.as_slice())? })
+            put(
+                code,
+                *place,
+                Op::Index {
+                    mask: mask_of(alloc, positions.as_slice())?,
+                },
+            )
         }
         Expr::Assign { name, value, place } => {
             emit(alloc, value.get(), code)?;
-            put(code, *place, Op::Asg { name: name.copy(alloc)? })
+            put(
+                code,
+                *place,
+                Op::Asg {
+                    name: name.copy(alloc)?,
+                },
+            )
         }
-        Expr::IndexAssign { name, positions, value, place } => {
+        Expr::IndexAssign {
+            name,
+            positions,
+            value,
+            place,
+        } => {
             emit(alloc, value.get(), code)?;
             emit_positions(alloc, positions.as_slice(), code)?;
-            put(code, *place, Op::Iasg {
-                name: name.copy(alloc)?,
-                mask: mask_of(alloc, positions.as_slice())?,
-            })
+            put(
+                code,
+                *place,
+                Op::Iasg {
+                    name: name.copy(alloc)?,
+                    mask: mask_of(alloc, positions.as_slice())?,
+                },
+            )
         }
         Expr::Output { value, place } => {
             emit(alloc, value.get(), code)?;

@@ -1,6 +1,6 @@
 //! The laws of code: each function does nothing, and its contract is the law.
 
-ghost use Rattle.apl_compile.specs.Laws.{CodeDoes, StatementCodeDoes, ProgramDoes, ImmediateIsRun, ReportsOfOutline, OneReport};
+ghost use Rattle.apl_compile.specs.Laws.{CodeDoes, StatementCodeDoes, ProgramDoes, ImmediateIsRun, ReportsOfOutline, OneReport, RoutinesAreCoded, StepsAreCoded, CodesAreInOrder};
 ghost use Rattle.apl_compile.specs.Lawful.{StatementsAreLawful, LawfulCodeHasOperands};
 
 /// The code of an expression, with any code after it, does what the expression does and goes on with its value; the
@@ -13,6 +13,13 @@ pub fn codes_do<S, V>()
 /// A script's functions, statements and commands run by their codes as by their trees: over all values and states.
 pub fn programs_do<S, V>()
     ensures { ProgramDoes S V }
+{}
+
+/// The functions, the steps and the codes of a script's program are those of the script, each statement with its code.
+pub fn programs_are_coded()
+    ensures functions { RoutinesAreCoded }
+    ensures steps { StepsAreCoded }
+    ensures codes { CodesAreInOrder }
 {}
 
 /// Immediate evaluation of a script is the run of its compiled program over arrays.

@@ -3,9 +3,18 @@
 
 mod codes;
 mod compiler;
+mod examples;
 mod expressions;
 mod laws;
+mod programs;
+mod scripts;
+mod tables;
 
 pub use codes::{Code, Instruction, Op};
 pub use compiler::compile;
-pub use laws::{codes_are_lawful, codes_do, immediate_is_run, one_report, programs_do};
+pub use examples::examples_of_code;
+pub use laws::{
+    codes_are_lawful, codes_do, immediate_is_run, one_report, programs_are_coded, programs_do,
+};
+pub use programs::{Function, Program};
+pub use scripts::compile_script;

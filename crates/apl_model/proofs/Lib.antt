@@ -13,6 +13,7 @@ pub mod DefinitionRows
 pub mod DepthRow
 pub mod ClassRow
 pub mod AcceptedItems
+pub mod Beginnings
 pub mod TokenOrder
 pub mod TokenSlices
 pub mod Mapped

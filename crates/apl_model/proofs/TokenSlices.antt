@@ -1,134 +1,20 @@
 -- The slice of a token, read alone, is the token.
-use Rattle.std.proofs.Common.{◌≡◌, ℕ, zero, suc, ◌+◌, ◌-◌, ◌<◌, ◌≤◌, ◌==◌, Bool, true, false, cond, List, [], ◌∷◌, length, take, drop, Option, None, Some, ◌⊎◌, inl, inr, ℤ, refl, sym, ap, subst, ◌∙◌, arith}
-use Rattle.std.specs.List.{IsAmong, prefix_len}
-use Rattle.std.specs.Option.{unwrap_or, option_map}
-use Rattle.apl_base.specs.declared.faults.Cause.TheVariants as cause
+use Rattle.std.proofs.Common.{◌≡◌, ℕ, zero, suc, ◌+◌, ◌-◌, ◌<◌, ◌≤◌, ◌==◌, Bool, true, false, List, [], ◌∷◌, take, drop, None, ◌⊎◌, inl, inr, ℤ, refl, sym, ap, subst, ◌∙◌, arith}
+use Rattle.std.proofs.lemmas.List.{append-nil}
+use Rattle.std.specs.List.{IsAmong}
 use Rattle.apl_model.proofs.Accepted.{among_cases, among_there, among_none}
+use Rattle.apl_model.proofs.Beginnings.{piece_of, next, beginning_keeps}
 use Rattle.apl_model.proofs.TokenOrder.{InOrder, pieces_in_order, tokens_in_order}
-use Rattle.apl_model.specs.Characters.{code, is_blank, is_letter, is_name_part, begins_number, is_number_part, number_of}
+use Rattle.apl_model.specs.Characters.{code, is_blank}
 use Rattle.apl_model.specs.Laws.{StandInOrder, TokensAreSlices}
-use Rattle.apl_model.specs.Tokens.{Found, number, text, name, glyph, fault, Beginning, Quoted, with_character, quoted, name_at, number_at, text_at, beginning, Piece, pieces_after, number_before, tokens_of_pieces, IsSound, AreSound}
+use Rattle.apl_model.specs.Tokens.{Found, number, text, name, glyph, fault, Beginning, beginning, Piece, pieces_after, number_before, tokens_of_pieces, IsSound, AreSound}
 use Rattle.apl_model.specs.declared.tokens.Token.{Token}
 use Rattle.apl_model.specs.declared.tokens.Word.{Word}
 use Rattle.apl_model.specs.declared.tokens.Word.TheVariants as word
 
--- ---- What begins at a character, in a line that ends earlier ----
-
-prefix_by : (p : ℕ → Bool) (b : Bool) (m : ℕ) (cs : List ℕ) → cond b (1 + prefix_len p cs) 0 ≤ suc m →
-    (prefix_len p cs ≤ m → prefix_len p (take m cs) ≡ prefix_len p cs) → cond b (1 + prefix_len p (take m cs)) 0 ≡ cond b (1 + prefix_len p cs) 0
-prefix_by p true m cs h f = ap (λ n. 1 + n) (f (omega arith))
-prefix_by p false m cs h f = refl
-
-prefix_take : (p : ℕ → Bool) (m : ℕ) (cs : List ℕ) → prefix_len p cs ≤ m → prefix_len p (take m cs) ≡ prefix_len p cs
-prefix_take p zero [] h = refl
-prefix_take p (suc m) [] h = refl
-prefix_take p zero (c ∷ cs) h = omega (arith, h)
-prefix_take p (suc m) (c ∷ cs) h = prefix_by p (p c) m cs h (prefix_take p m cs)
-
-take_take : (n m : ℕ) (cs : List ℕ) → n ≤ m → take n (take m cs) ≡ take n cs
-take_take zero m cs h = refl
-take_take (suc n) zero cs h = absurd (omega arith)
-take_take (suc n) (suc m) [] h = refl
-take_take (suc n) (suc m) (c ∷ cs) h = ap (λ xs. c ∷ xs) (take_take n m cs (omega arith))
-
-word_take : (p : ℕ → Bool) (m : ℕ) (cs : List ℕ) → prefix_len p cs ≤ m → take (prefix_len p (take m cs)) (take m cs) ≡ take (prefix_len p cs) cs
-word_take p m cs h = ap (λ n. take n (take m cs)) (prefix_take p m cs h) ∙ take_take (prefix_len p cs) m cs h
-
-abbrev two_quotes : Bool → Bool → ℕ → Option Quoted → Option Quoted → Option Quoted
-two_quotes a b c x y = elim a [
-  | true ↦ elim b [ true ↦ with_character c 2 x | false ↦ Some (record { characters = []; covers = 1 }) ]
-  | false ↦ with_character c 1 y
-]
-
-abbrev Covers : ℕ → Option Quoted → Type 0
-Covers m None = ⊥
-Covers m (Some q) = q.covers ≤ m
-
-covers_less : (c n m l : ℕ) (o : Option Quoted) → l ≤ n + m → Covers l (with_character c n o) → Covers m o
-covers_less c n m l None i h = h
-covers_less c n m l (Some q) i h = omega arith
-
-too_few : (c n m : ℕ) (o : Option Quoted) → m < n → Covers m (with_character c n o) → ⊥
-too_few c n m None i h = h
-too_few c n m (Some q) i h = omega arith
-
-not_quoted : (c : ℕ) (cs : List ℕ) → (c == code "'") ≡ false → quoted (c ∷ cs) ≡ with_character c 1 (quoted cs)
-not_quoted c [] e = ap (λ b. let o : Option Quoted = cond b (Some (record { characters = []; covers = 1 })) None in o) e
-not_quoted c (d ∷ cs) e = ap (λ a. two_quotes a (d == code "'") c (quoted cs) (quoted (d ∷ cs))) e
-
-closes_alone : (c : ℕ) → (c == code "'") ≡ true → quoted (c ∷ []) ≡ Some (record { characters = []; covers = 1 })
-closes_alone c e = ap (λ b. let o : Option Quoted = cond b (Some (record { characters = []; covers = 1 })) None in o) e
-
-quoted_take : (cs : List ℕ) (m : ℕ) → Covers m (quoted cs) → quoted (take m cs) ≡ quoted cs
-quoted_take [] m h = absurd h
-quoted_take (c ∷ []) zero h = last (c == code "'") h
-  where
-    last : (b : Bool) → (let o : Option Quoted = cond b (Some (record { characters = []; covers = 1 })) None in Covers 0 o) →
-        None ≡ (let o : Option Quoted = cond b (Some (record { characters = []; covers = 1 })) None in o)
-    last true h = absurd (omega arith)
-    last false h = absurd h
-quoted_take (c ∷ []) (suc zero) h = refl
-quoted_take (c ∷ []) (suc (suc m)) h = refl
-quoted_take (c ∷ d ∷ cs) m h = by_two (c == code "'") (d == code "'") refl refl m h (quoted_take cs) (quoted_take (d ∷ cs))
-  where
-    by_two : (a b : Bool) → (c == code "'") ≡ a → (d == code "'") ≡ b → (m : ℕ) → Covers m (two_quotes a b c (quoted cs) (quoted (d ∷ cs))) →
-        ((m : ℕ) → Covers m (quoted cs) → quoted (take m cs) ≡ quoted cs) →
-        ((m : ℕ) → Covers m (quoted (d ∷ cs)) → quoted (take m (d ∷ cs)) ≡ quoted (d ∷ cs)) →
-        quoted (take m (c ∷ d ∷ cs)) ≡ two_quotes a b c (quoted cs) (quoted (d ∷ cs))
-    by_two true true e f zero h x y = absurd (too_few c 2 0 (quoted cs) (omega arith) h)
-    by_two true true e f (suc zero) h x y = absurd (too_few c 2 1 (quoted cs) (omega arith) h)
-    by_two true true e f (suc (suc m)) h x y =
-        ap (λ a. two_quotes a (d == code "'") c (quoted (take m cs)) (quoted (d ∷ take m cs))) e
-        ∙ ap (λ b. two_quotes true b c (quoted (take m cs)) (quoted (d ∷ take m cs))) f
-        ∙ ap (with_character c 2) (x m (covers_less c 2 m (suc (suc m)) (quoted cs) (omega arith) h))
-    by_two true false e f zero h x y = absurd (omega arith)
-    by_two true false e f (suc zero) h x y = closes_alone c e
-    by_two true false e f (suc (suc m)) h x y =
-        ap (λ a. two_quotes a (d == code "'") c (quoted (take m cs)) (quoted (d ∷ take m cs))) e
-        ∙ ap (λ b. two_quotes true b c (quoted (take m cs)) (quoted (d ∷ take m cs))) f
-    by_two false b e f zero h x y = absurd (too_few c 1 0 (quoted (d ∷ cs)) (omega arith) h)
-    by_two false b e f (suc m) h x y =
-        not_quoted c (take m (d ∷ cs)) e ∙ ap (with_character c 1) (y m (covers_less c 1 m (suc m) (quoted (d ∷ cs)) (omega arith) h))
-
-abbrev piece_of : ℕ → Beginning → Piece
-piece_of k b = record { from = k; past = k + 1 + b.more; found = b.found }
-
-abbrev Keeps : ℕ → Beginning → Beginning → Type 0
-Keeps m b d = IsSound (piece_of 0 b) → b.more ≤ m → d ≡ b
-
-keeps_if : (m : ℕ) (t : Bool) (b c d e : Beginning) → Keeps m b d → Keeps m c e → Keeps m (cond t b c) (cond t d e)
-keeps_if m true b c d e h i = h
-keeps_if m false b c d e h i = i
-
-abbrev text_of : Option Quoted → ℕ → Beginning
-text_of o k = elim o [
-  | None ↦ record { found = fault cause.OpenText; more = k }
-  | Some q ↦ record { found = text q.characters; more = q.covers }
-]
-
-keeps_text : (m : ℕ) (o u : Option Quoted) (j k : ℕ) → (Covers m o → u ≡ o) → Keeps m (text_of o j) (text_of u k)
-keeps_text m None u j k f s h = absurd s
-keeps_text m (Some q) u j k f s h = ap (λ v. text_of v k) (f h)
-
-keeps_name : (m c : ℕ) (cs : List ℕ) → Keeps m (name_at c cs) (name_at c (take m cs))
-keeps_name m c cs s h =
-    let e = prefix_take is_name_part m cs h in
-    let w = word_take is_name_part m cs h in
-    λ i. record { found = name (c ∷ w i); more = e i }
-
-keeps_number : (m c : ℕ) (cs : List ℕ) → Keeps m (number_at c cs) (number_at c (take m cs))
-keeps_number m c cs s h =
-    let e = prefix_take is_number_part m cs h in
-    let w = word_take is_number_part m cs h in
-    λ i. record { found = unwrap_or (option_map number (number_of (c ∷ w i))) (fault cause.Number); more = e i }
-
-beginning_keeps : (m c : ℕ) (cs : List ℕ) → Keeps m (beginning c cs) (beginning c (take m cs))
-beginning_keeps m c cs =
-    keeps_if m (is_letter c) (name_at c cs) _ (name_at c (take m cs)) _ (keeps_name m c cs)
-    (keeps_if m (begins_number c) (number_at c cs) _ (number_at c (take m cs)) _ (keeps_number m c cs)
-    (keeps_if m (c == code "'") (text_at cs) _ (text_at (take m cs)) _
-    (keeps_text m (quoted cs) (quoted (take m cs)) (length cs) (length (take m cs)) (quoted_take cs m))
-    (λ s h. refl)))
+-- what begins at a character of a line that ends behind it
+ends_behind : (m c : ℕ) (cs : List ℕ) → IsSound (piece_of 0 (beginning c cs)) → (beginning c cs).more ≤ m → beginning c (take m cs) ≡ beginning c cs
+ends_behind m c cs s h = ap (beginning c) (sym (append-nil (take m cs))) ∙ beginning_keeps m c cs None s h
 
 -- ---- The pieces before a column ----
 
@@ -151,9 +37,6 @@ sound_front j [] (q ∷ qs) s f = absurd f
 sound_front j (p ∷ ps) [] s f = tt
 sound_front j (p ∷ ps) (q ∷ qs) s f = (subst IsSound f.0 s.0, sound_front j ps qs s.1 f.2)
 
-abbrev next : Bool → Bool → List Piece → Piece → List Piece → List Piece
-next a b x p z = elim a [ true ↦ x | false ↦ elim b [ true ↦ [] | false ↦ p ∷ z ] ]
-
 abbrev pieces_by : Bool → Bool → ℕ → ℕ → List ℕ → List Piece
 pieces_by a b k c cs = next a b (pieces_after 0 (k + 1) cs) (piece_of k (beginning c cs)) (pieces_after (beginning c cs).more (k + 1) cs)
 
@@ -167,7 +50,7 @@ char_front false true k c m cs (q ∷ qs) ea eb s f g = absurd f
 char_front false false k c m cs [] ea eb s f g = let l : k + suc m ≤ k = f in absurd (omega arith)
 char_front false false k c m cs (q ∷ qs) ea eb s f g =
     let h : (beginning c cs).more ≤ m = (let l : k + 1 + (beginning c cs).more ≤ k + suc m = f.1 in omega arith) in
-    let e = beginning_keeps m c cs s.0 h in
+    let e = ends_behind m c cs s.0 h in
     ap (λ a. pieces_by a (c == code "⍝") k c (take m cs)) ea ∙ ap (λ b. pieces_by false b k c (take m cs)) eb
     ∙ ap (λ (d : Beginning). piece_of k d ∷ pieces_after d.more (k + 1) (take m cs)) e
     ∙ ap (λ ps. piece_of k (beginning c cs) ∷ ps) (g (beginning c cs).more qs s.1 h f.2) ∙ ap (λ v. v ∷ qs) f.0

@@ -1,6 +1,7 @@
 -- The look-up of a name among headings, one heading after the other.
-use Rattle.std.proofs.Common.{◌≡◌, ℕ, ◌+◌, ◌<◌, Bool, true, false, List, ◌∷◌, length, get_or, drop, Some, refl, sym, ap, ◌∙◌, cond}
+use Rattle.std.proofs.Common.{◌≡◌, ℕ, ◌+◌, ◌<◌, true, false, List, ◌∷◌, length, get_or, drop, Some, sym, ap, ◌∙◌, cond}
 use Rattle.std.proofs.lemmas.List.{at_drop_more}
+use Rattle.apl_base.proofs.Booleans.{by_false}
 use Rattle.apl_model.specs.Environment.{is_same_name}
 use Rattle.apl_model.specs.Grammar.{arguments_of}
 use Rattle.apl_model.specs.declared.tokens.Heading.{Heading}
@@ -8,10 +9,6 @@ use Rattle.std.specs.Cmp.Lexicographic.{bytes_decides}
 
 same_of : (a b : List ℕ) → a ≡ b → is_same_name a b ≡ true
 same_of a b e = (bytes_decides a b).1 e
-
-by_false : (b : Bool) (P : Type 0) → (b ≡ true → P) → (P → ⊥) → b ≡ false
-by_false true P f g = absurd (g (f refl))
-by_false false P f g = refl
 
 other_of : (a b : List ℕ) → (a ≡ b → ⊥) → is_same_name a b ≡ false
 other_of a b n = by_false (is_same_name a b) (a ≡ b) (bytes_decides a b).0 n

@@ -1,12 +1,12 @@
 -- The tokens that follow a label are those of a line of their own, with blanks in the label's place.
 use Rattle.std.proofs.Common.{◌≡◌, ℕ, zero, suc, ◌+◌, ◌-◌, ◌≤◌, ◌==◌, Bool, true, false, List, [], ◌∷◌, ℤ, refl, sym, ap, subst, ◌∙◌, arith}
+use Rattle.apl_model.proofs.Beginnings.{next, piece_of}
 use Rattle.apl_model.specs.Characters.{code, is_blank}
 use Rattle.apl_model.specs.Tokens.{Found, number, text, name, glyph, fault, Piece, pieces_after, pieces, beginning, number_before, tokens_of_pieces, IsSound, AreSound, IsRead}
 use Rattle.apl_model.specs.declared.tokens.Token.{Token}
 use Rattle.apl_model.specs.declared.tokens.Word.{Word}
 use Rattle.apl_model.specs.declared.tokens.Word.TheVariants as word
-use Rattle.apl_tree.proofs.Cuts.{next, piece_of}
-use Rattle.apl_tree.proofs.SplitTokens.{IsNumbers, BeginsWithNumbers}
+use Rattle.apl_tree.proofs.SplitTokens.{IsNumbers, BeginsWithNumbers, nil_clash, tail_is}
 use Rattle.apl_tree.specs.Condition.{AreTokensOf, all_of, after_label}
 
 -- a text from column k on that has these pieces
@@ -17,21 +17,21 @@ record HasText (ps : List Piece) : Type 0 where
   first : 1 ≤ column
   same : pieces_after skipped column line ≡ ps
 
-nil_clash : {p : Piece} {ps : List Piece} → [] ≡ p ∷ ps → ⊥
-nil_clash e = cc
+no_piece : {p : Piece} {ps : List Piece} → [] ≡ p ∷ ps → ⊥
+no_piece e = cc
 
-tail_is : {p q : Piece} {ps qs : List Piece} → p ∷ ps ≡ q ∷ qs → ps ≡ qs
-tail_is e = cc
+piece_tail : {p q : Piece} {ps qs : List Piece} → p ∷ ps ≡ q ∷ qs → ps ≡ qs
+piece_tail e = cc
 
 rest_by : (a b : Bool) (k : ℕ) (cs : List ℕ) (x : List Piece) (v : Piece) (m : ℕ) (p : Piece) (ps : List Piece) →
     next a b x v (pieces_after m (k + 1) cs) ≡ p ∷ ps → (x ≡ p ∷ ps → HasText ps) → HasText ps
 rest_by true b k cs x v m p ps e f = f e
-rest_by false true k cs x v m p ps e f = absurd (nil_clash e)
-rest_by false false k cs x v m p ps e f = record { skipped = m; column = k + 1; line = cs; first = omega arith; same = tail_is e }
+rest_by false true k cs x v m p ps e f = absurd (no_piece e)
+rest_by false false k cs x v m p ps e f = record { skipped = m; column = k + 1; line = cs; first = omega arith; same = piece_tail e }
 
 -- the pieces after the first
 rest : (n k : ℕ) (cs : List ℕ) (p : Piece) (ps : List Piece) → 1 ≤ k → pieces_after n k cs ≡ p ∷ ps → HasText ps
-rest n k [] p ps h e = absurd (nil_clash e)
+rest n k [] p ps h e = absurd (no_piece e)
 rest (suc n) k (c ∷ cs) p ps h e = rest n (k + 1) cs p ps (omega arith) e
 rest zero k (c ∷ cs) p ps h e =
     rest_by (is_blank c) (c == code "⍝") k cs (pieces_after 0 (k + 1) cs) (piece_of k (beginning c cs)) (beginning c cs).more p ps e (λ f. rest zero (k + 1) cs p ps (omega arith) f)
@@ -68,15 +68,12 @@ numbers_first x y z (t ∷ ts) = by t.word
     by (word.Name n) = tt
     by (word.Glyph c) = tt
 
-token_tail : {t u : Token} {ts us : List Token} → t ∷ ts ≡ u ∷ us → ts ≡ us
-token_tail e = cc
-
 peel_by : (x y : ℕ) (f : Found) (ps : List Piece) (t : Token) (ts : List Token) → IsSound (record { from = x; past = y; found = f }) →
     tokens_of_pieces (record { from = x; past = y; found = f } ∷ ps) ≡ t ∷ ts → (IsNumbers t.word → ⊥) → tokens_of_pieces ps ≡ ts
 peel_by x y (number z) ps t ts s e n = absurd (n (subst BeginsWithNumbers e (numbers_first x y z (tokens_of_pieces ps))))
-peel_by x y (text cs) ps t ts s e n = token_tail e
-peel_by x y (name m) ps t ts s e n = token_tail e
-peel_by x y (glyph g) ps t ts s e n = token_tail e
+peel_by x y (text cs) ps t ts s e n = tail_is e
+peel_by x y (name m) ps t ts s e n = tail_is e
+peel_by x y (glyph g) ps t ts s e n = tail_is e
 peel_by x y (fault c) ps t ts s e n = absurd s
 
 -- the pieces without the first, whose token is no number
@@ -85,11 +82,8 @@ record Peeled (ts : List Token) : Type 0 where
   sound : AreSound (pieces line)
   same : tokens_of_pieces (pieces line) ≡ ts
 
-clash : {t : Token} {ts : List Token} → [] ≡ t ∷ ts → ⊥
-clash e = cc
-
 peel_pieces : (line : List ℕ) (ps : List Piece) (t : Token) (ts : List Token) → pieces line ≡ ps → AreSound ps → tokens_of_pieces ps ≡ t ∷ ts → (IsNumbers t.word → ⊥) → Peeled ts
-peel_pieces line [] t ts q s e n = absurd (clash e)
+peel_pieces line [] t ts q s e n = absurd (nil_clash e)
 peel_pieces line (p ∷ ps) t ts q s e n =
     let r = rest 0 1 line p ps (omega arith) q in
     let w = whole r.skipped r.column r.line ps r.first r.same in

@@ -1,4 +1,5 @@
 pub mod Cuts
+pub mod Formed
 pub mod Heads
 pub mod Labels
 pub mod Opened

@@ -6,10 +6,10 @@ use Rattle.apl_base.specs.declared.cells.Kind.TheVariants as kind
 use Rattle.apl_base.specs.declared.faults.Place.{Place}
 use Rattle.apl_base.specs.declared.rows.Dya.{Dya}
 use Rattle.apl_base.specs.declared.rows.Mon.{Mon}
-use Rattle.apl_model.proofs.Machine.{Sort, literal, named, scalar, plain, turn, slash, slash_first, backslash, jot, dot, assign, arrow, quad, open_paren, close_paren, open_bracket, close_bracket, semicolon, other, sort, Wait, for_call, for_monadic, for_dyadic, for_reduction, for_outer, for_inner, for_assignment, for_indexed, for_output, filled, Stack, bottom, waiting, in_parenthesis, in_subscript, Along, reduces, reverses, rotates, compresses, expands, along_axis, Status, first, must, may, operand, glyph_first, glyph_after, axis_or_none, axis_opened, axis_given, after_jot, after_jot_dot, after_dot, after_quad, State, state, begun, wind, then_position, close_parenthesis, close_subscript, next_position, assigned, followed, may_begin, first_taken, after_first, after_scalar, axis_begun, axis_number, axis_taken, axis_closed, dot_taken, outer_taken, inner_taken, quad_taken, taken_by, taken, step, run, start, finished, finished_with, read}
-use Rattle.apl_model.specs.Grammar.{IsLiteral, IsOperand, IsExpression, IsStatement, HasPosition, IsPosition, ArePositions}
+use Rattle.apl_model.proofs.Machine.{Sort, literal, named, scalar, plain, turn, slash, slash_first, backslash, jot, dot, assign, arrow, quad, open_paren, close_paren, open_bracket, close_bracket, semicolon, other, sort, for_monadic, for_dyadic, filled, Stack, bottom, waiting, in_parenthesis, in_subscript, Along, along_axis, Status, first, must, may, operand, glyph_first, glyph_after, axis_or_none, axis_opened, axis_given, after_jot, after_jot_dot, after_dot, after_quad, State, state, begun, wind, then_position, close_parenthesis, close_subscript, next_position, assigned, followed, may_begin, first_taken, after_first, after_scalar, axis_begun, axis_number, axis_taken, axis_closed, dot_taken, outer_taken, inner_taken, quad_taken, taken_by, taken, step, run, start, finished, finished_with, read}
+use Rattle.apl_model.specs.Grammar.{IsLiteral, IsOperand, IsExpression, IsStatement, IsPosition}
 use Rattle.apl_model.specs.Spelling.{Mark, at, some, glyph, mon_glyph, dya_glyph, dyadic_marks, literal_word, spelling, slot_spelling, position_spelling, statement_spelling, Spell}
-use Rattle.apl_model.specs.Tree.{Tree, variable, subscript, Slot, elided, given, Positions, no_position, position, Statement}
+use Rattle.apl_model.specs.Tree.{Tree, variable, subscript, Slot, elided, given, Statement}
 use Rattle.apl_model.specs.declared.functions.Axis.{Axis}
 use Rattle.apl_model.specs.declared.functions.Axis.TheVariants as axis
 use Rattle.apl_model.specs.declared.functions.DyaFn.TheVariants as two
@@ -18,89 +18,11 @@ use Rattle.apl_model.specs.declared.tokens.Heading.{Heading}
 use Rattle.apl_model.specs.declared.tokens.Token.{Token}
 use Rattle.apl_model.specs.declared.tokens.Word.{Word}
 use Rattle.apl_model.specs.declared.tokens.Word.TheVariants as word
-use Rattle.apl_tree.proofs.Shown.{open_positions, wait_marks, stack_marks, along_marks, number_marks, marks, Agree, IsNumbered, IsWait, IsStack, IsAlong, IsStatus, IsState, Imply, after_same, imply_eq, imply_by, last_on, last_in, spell_implied, spell_more}
+use Rattle.apl_tree.proofs.Formed.{filled_marks, then_closed, then_open, then_has, axis_last, axis_numbered, filled_lawful, then_are, axis_last_lawful, axis_numbered_lawful}
+use Rattle.apl_tree.proofs.Shown.{open_positions, wait_marks, stack_marks, along_marks, number_marks, marks, Agree, IsNumbered, IsStack, IsAlong, IsStatus, IsState, Imply, after_same, imply_eq, imply_by, last_on, last_in, spell_implied, spell_more}
 use Rattle.apl_tree.proofs.SortFacts.{IsWord, AreWords, IsSortOf, sort_holds}
 
--- ---- A form with its right argument ----
-
-filled_marks : (w : Wait) (e : Tree) → spelling (filled w e) ≡ wait_marks w ++ spelling e
-filled_marks (for_call f elided p) e = refl
-filled_marks (for_call f (given l) p) e = sym (append_assoc (spelling l) (at p (word.Name f) ∷ []) (spelling e))
-filled_marks (for_monadic f p) e = refl
-filled_marks (for_dyadic f l p) e = sym (append_assoc (spelling l) (dyadic_marks f p) (spelling e))
-filled_marks (for_reduction f x p) e = refl
-filled_marks (for_outer f l p) e = sym (append_assoc (spelling l) (at p (glyph "∘") ∷ some (glyph ".") ∷ some (dya_glyph f) ∷ []) (spelling e))
-filled_marks (for_inner f g l p) e = sym (append_assoc (spelling l) (some (dya_glyph f) ∷ at p (glyph ".") ∷ some (dya_glyph g) ∷ []) (spelling e))
-filled_marks (for_assignment n p) e = refl
-filled_marks (for_indexed n qs p) e = ap (λ ms. some (word.Name n) ∷ ms) (sym (append_assoc (position_spelling (at p (glyph "[")) qs) (some (glyph "]") ∷ some (glyph "←") ∷ []) (spelling e)))
-filled_marks (for_output p) e = refl
-
--- ---- One more position ----
-
-then_closed : (lead : Mark) (qs : Positions) (s : Slot) → position_spelling lead (then_position qs s) ≡ open_positions lead qs ++ slot_spelling s
-then_closed lead no_position s = ap (λ ms. lead ∷ ms) (append-nil (slot_spelling s))
-then_closed lead (position q qs) s =
-    ap (λ ms. lead ∷ ms) (ap (λ ms. slot_spelling q ++ ms) (then_closed (some (glyph ";")) qs s)
-    ∙ sym (append_assoc (slot_spelling q) (open_positions (some (glyph ";")) qs) (slot_spelling s)))
-
-then_open : (lead : Mark) (qs : Positions) (s : Slot) → open_positions lead (then_position qs s) ≡ (open_positions lead qs ++ slot_spelling s) ++ (some (glyph ";") ∷ [])
-then_open lead no_position s = refl
-then_open lead (position q qs) s =
-    ap (λ ms. lead ∷ ms) (ap (λ ms. slot_spelling q ++ ms) (then_open (some (glyph ";")) qs s)
-    ∙ sym (append_assoc (slot_spelling q) (open_positions (some (glyph ";")) qs ++ slot_spelling s) (some (glyph ";") ∷ []))
-    ∙ ap (λ ms. ms ++ (some (glyph ";") ∷ [])) (sym (append_assoc (slot_spelling q) (open_positions (some (glyph ";")) qs) (slot_spelling s))))
-
-then_has : (qs : Positions) (s : Slot) → HasPosition (then_position qs s)
-then_has no_position s = tt
-then_has (position q qs) s = tt
-
--- ---- An axis ----
-
-axis_last : (a : Along) → wait_marks (along_axis a axis.Last) ≡ along_marks a
-axis_last (reduces f p) = refl
-axis_last (reverses p) = refl
-axis_last (rotates l p) = refl
-axis_last (compresses l p) = refl
-axis_last (expands l p) = refl
-
-axis_numbered : (a : Along) (k : ℤ) → wait_marks (along_axis a (axis.Numbered k)) ≡ along_marks a ++ (some (glyph "[") ∷ some (word.Numbers (k ∷ [])) ∷ some (glyph "]") ∷ [])
-axis_numbered (reduces f p) k = refl
-axis_numbered (reverses p) k = refl
-axis_numbered (rotates l p) k = sym (append_assoc (spelling l) (at p (glyph "⌽") ∷ []) (some (glyph "[") ∷ some (word.Numbers (k ∷ [])) ∷ some (glyph "]") ∷ []))
-axis_numbered (compresses l p) k = sym (append_assoc (spelling l) (at p (glyph "/") ∷ []) (some (glyph "[") ∷ some (word.Numbers (k ∷ [])) ∷ some (glyph "]") ∷ []))
-axis_numbered (expands l p) k = sym (append_assoc (spelling l) (at p (glyph "\\") ∷ []) (some (glyph "[") ∷ some (word.Numbers (k ∷ [])) ∷ some (glyph "]") ∷ []))
-
 module _ (hs : List Heading) where
-  filled_lawful : (w : Wait) (e : Tree) → IsWait hs w → IsExpression hs e → IsExpression hs (filled w e)
-  filled_lawful (for_call f elided p) e h i = (h, i)
-  filled_lawful (for_call f (given l) p) e h i = (h.0, h.1, h.2, i)
-  filled_lawful (for_monadic f p) e h i = (h, i)
-  filled_lawful (for_dyadic f l p) e h i = (h.0, h.1, h.2, i)
-  filled_lawful (for_reduction f x p) e h i = (h, i)
-  filled_lawful (for_outer f l p) e h i = (h.0, h.1, i)
-  filled_lawful (for_inner f g l p) e h i = (h.0, h.1, i)
-  filled_lawful (for_assignment n p) e h i = (h, i)
-  filled_lawful (for_indexed n qs p) e h i = (h.0, h.1, h.2, i)
-  filled_lawful (for_output p) e h i = i
-
-  then_are : (qs : Positions) (s : Slot) → ArePositions hs qs → IsPosition hs s → ArePositions hs (then_position qs s)
-  then_are no_position s h i = (i, tt)
-  then_are (position q qs) s h i = (h.0, then_are qs s h.1 i)
-
-  axis_last_lawful : (a : Along) → IsAlong hs a → IsWait hs (along_axis a axis.Last)
-  axis_last_lawful (reduces f p) h = tt
-  axis_last_lawful (reverses p) h = tt
-  axis_last_lawful (rotates l p) h = (tt, h.0, h.1)
-  axis_last_lawful (compresses l p) h = (tt, h.0, h.1)
-  axis_last_lawful (expands l p) h = (tt, h.0, h.1)
-
-  axis_numbered_lawful : (a : Along) (k : ℤ) → IsAlong hs a → IsNumbered (axis.Numbered k) → IsWait hs (along_axis a (axis.Numbered k))
-  axis_numbered_lawful (reduces f p) k h i = i
-  axis_numbered_lawful (reverses p) k h i = i
-  axis_numbered_lawful (rotates l p) k h i = (i, h.0, h.1)
-  axis_numbered_lawful (compresses l p) k h i = (i, h.0, h.1)
-  axis_numbered_lawful (expands l p) k h i = (i, h.0, h.1)
-
   -- ---- A complete expression ----
 
   record IsWound (ms : List Mark) (e : Tree) (o : Stack) : Type 0 where
@@ -111,7 +33,7 @@ module _ (hs : List Heading) where
   wind_holds : (e : Tree) (o : Stack) → IsExpression hs e → IsStack hs o → IsWound (stack_marks o ++ spelling e) (wind e o).tree (wind e o).stack
   wind_holds e (bottom b) h i = record { tree = h; stack = i; marks = refl }
   wind_holds e (waiting w o) h i =
-      let r = wind_holds (filled w e) o (filled_lawful w e i.0 h) i.1 in
+      let r = wind_holds (filled w e) o (filled_lawful hs w e i.0 h) i.1 in
       record {
         tree = r.tree;
         stack = r.stack;
@@ -188,7 +110,7 @@ module _ (hs : List Heading) where
   close_subscript_holds s (in_parenthesis q o) p w h i g = tt
   close_subscript_holds s (in_subscript a qs q o) p w h i g =
       record {
-        lawful = record { stack = i.3; status = (tt, (i.0, i.1, then_has qs s, then_are qs s i.2 h)) };
+        lawful = record { stack = i.3; status = (tt, (i.0, i.1, then_has qs s, then_are hs qs s i.2 h)) };
         marks = in_position (stack_marks o) (spelling a) (open_positions (at q (glyph "[")) qs) (slot_spelling s) (at p w) (some (glyph "]"))
             (position_spelling (at q (glyph "[")) (then_position qs s) ++ (some (glyph "]") ∷ []))
             (ap (λ ms. ms ++ (some (glyph "]") ∷ [])) (then_closed (at q (glyph "[")) qs s)) (g, tt);
@@ -201,7 +123,7 @@ module _ (hs : List Heading) where
   next_position_holds s (in_parenthesis q o) p w h i g = tt
   next_position_holds s (in_subscript a qs q o) p w h i g =
       record {
-        lawful = record { stack = (i.0, i.1, then_are qs s i.2 h, i.3); status = tt };
+        lawful = record { stack = (i.0, i.1, then_are hs qs s i.2 h, i.3); status = tt };
         marks = in_position (stack_marks o) (spelling a) (open_positions (at q (glyph "[")) qs) (slot_spelling s) (at p w) (some (glyph ";"))
             (open_positions (at q (glyph "[")) (then_position qs s)) (then_open (at q (glyph "[")) qs s) (g, tt);
       }
@@ -327,7 +249,7 @@ module _ (hs : List Heading) where
       record { lawful = record { stack = i; status = h }; marks = last_on (stack_marks o) (along_marks a) (at p w) (along_marks a ++ (some (glyph "[") ∷ [])) (after_same (along_marks a) (at p w ∷ []) (some (glyph "[") ∷ []) (g, tt)) }
   axis_begun_holds o a p w s i h g =
       from_marks (stack_marks o ++ wait_marks (along_axis a axis.Last)) (stack_marks o ++ along_marks a) p w (begun (waiting (along_axis a axis.Last) o) p s)
-      (ap (λ ms. stack_marks o ++ ms) (axis_last a)) (begun_holds (waiting (along_axis a axis.Last) o) p w s (axis_last_lawful a h, i) g)
+      (ap (λ ms. stack_marks o ++ ms) (axis_last a)) (begun_holds (waiting (along_axis a axis.Last) o) p w s (axis_last_lawful hs a h, i) g)
 
   axis_number_holds : (o : Stack) (a : Along) (k : Kind) (zs : List ℤ) (p : Place) (w : Word) → IsStack hs o → IsAlong hs a →
       w ≡ literal_word (record { kind = k; cells = zs }) → IsLiteral (record { kind = k; cells = zs }) →
@@ -352,7 +274,7 @@ module _ (hs : List Heading) where
   axis_closed_holds o a axis.First p w s i h k g = absurd k
   axis_closed_holds o a (axis.Numbered z) p w close_bracket i h k g =
       record {
-        lawful = record { stack = (axis_numbered_lawful a z h k, i); status = tt };
+        lawful = record { stack = (axis_numbered_lawful hs a z h k, i); status = tt };
         marks = imply_by ((stack_marks o ++ (along_marks a ++ number_marks (axis.Numbered z))) ++ at p w ∷ []) ((stack_marks o ++ (along_marks a ++ number_marks (axis.Numbered z))) ++ at p w ∷ [])
             (stack_marks o ++ wait_marks (along_axis a (axis.Numbered z))) (stack_marks o ++ (along_marks a ++ (some (glyph "[") ∷ some (word.Numbers (z ∷ [])) ∷ some (glyph "]") ∷ [])))
             refl (ap (λ ms. stack_marks o ++ ms) (axis_numbered a z))

@@ -49,13 +49,13 @@ before_others x y z (t ∷ ts) h = by_word x y t.from t.past z t.word ts h
 abbrev Splits : List Piece → Type 0
 Splits ps = (before after : List Token) → tokens_of_pieces ps ≡ before ++ after → SplitBehind ps before
 
-nil_clash : {t : Token} {ts : List Token} → [] ≡ t ∷ ts → ⊥
+pub nil_clash : {t : Token} {ts : List Token} → [] ≡ t ∷ ts → ⊥
 nil_clash e = cc
 
 head_is : {t u : Token} {ts us : List Token} → t ∷ ts ≡ u ∷ us → t ≡ u
 head_is e = cc
 
-tail_is : {t u : Token} {ts us : List Token} → t ∷ ts ≡ u ∷ us → ts ≡ us
+pub tail_is : {t u : Token} {ts us : List Token} → t ∷ ts ≡ u ∷ us → ts ≡ us
 tail_is e = cc
 
 -- a piece that is no number

@@ -1,18 +1,16 @@
 -- The tokens of a line that is read have lawful words.
 use Rattle.std.proofs.Common.{◌≡◌, ℕ, zero, suc, ◌+◌, ◌<◌, ◌≤◌, ◌^◌, ◌==◌, Bool, true, false, cond, IsTrue, List, [], ◌∷◌, length, take, Option, None, Some, ℤ, pos, refl, ap, subst, arith, one-add}
 use Rattle.std.proofs.lemmas.Bool.{and_parts, and_from}
-use Rattle.std.proofs.lemmas.Float.{T_from_true}
 use Rattle.std.proofs.lemmas.Str.{scalars-chars}
 use Rattle.std.specs.Char.{IsScalar}
 use Rattle.std.specs.List.{AllByRecursion, prefix_len}
 use Rattle.std.specs.Option.{unwrap_or, option_map}
-use Rattle.std.specs.Prelude.{neg_ℤ, int_le}
+use Rattle.std.specs.Prelude.{neg_ℤ}
 use Rattle.std.specs.Str.{chars, IsUtf8}
-use lib.Signed.{le_z_yes}
 use lib.Utf8.{scalar, scalars}
+use Rattle.apl_base.proofs.Numbers.{is_number-true}
 use Rattle.apl_base.specs.Number.{IsNumber, is_number, IsCell}
 use Rattle.apl_base.specs.declared.cells.Kind.TheVariants as kind
-use Rattle.apl_base.specs.declared.cells.TheConstants.{M}
 use Rattle.apl_base.specs.declared.faults.Cause.{Cause}
 use Rattle.apl_base.specs.Scalar.{in_range}
 use Rattle.apl_model.specs.Characters.{code, is_blank, is_letter, is_name_part, begins_number, is_number_part, is_glyph, read_as, all_pass, is_name, are_digits, decimal_after, number_of}
@@ -48,13 +46,8 @@ abbrev IfNumber : Option ℤ → Type 0
 IfNumber None = Unit {0}
 IfNumber (Some z) = IsNumber z
 
-number_from : (z : ℤ) → is_number z ≡ true → IsNumber z
-number_from z h =
-    let p = and_parts (int_le (neg_ℤ M) z) (int_le z M) h in
-    record { least = le_z_yes (T_from_true (int_le (neg_ℤ M) z) p.0); most = le_z_yes (T_from_true (int_le z M) p.1) }
-
 lawful_holds : (z : ℤ) → IfNumber (in_range z)
-lawful_holds z = if_holds IfNumber (is_number z) (Some z) None (number_from z) tt
+lawful_holds z = if_holds IfNumber (is_number z) (Some z) None (is_number-true z) tt
 
 number_of_holds : (w : List ℕ) → IfNumber (number_of w)
 number_of_holds [] = tt
@@ -190,10 +183,6 @@ cells_in (word.Glyph c) = []
 abbrev first_cells : List Token → List ℤ
 first_cells [] = []
 first_cells (t ∷ ts) = cells_in t.word
-
-text_piece : (a b : ℕ) (cs : List ℕ) (ps : List Piece) →
-    tokens_of_pieces (record { from = a; past = b; found = text cs } ∷ ps) ≡ record { from = a; past = b; word = word.Chars (first_cells (tokens_of_pieces (record { from = 0; past = 0; found = text cs } ∷ []))) } ∷ tokens_of_pieces ps
-text_piece a b cs ps = refl
 
 text_cells : List ℕ → List ℤ
 text_cells cs = first_cells (tokens_of_pieces (record { from = 0; past = 0; found = text cs } ∷ []))

@@ -21,6 +21,7 @@ use Rattle.apl_tree.specs.declared.waits.Along.TheVariants as along
 use Rattle.apl_tree.specs.declared.waits.Wait.{Wait}
 use Rattle.apl_tree.specs.declared.waits.Wait.TheVariants as wait
 
+-- what a token is to the reader
 abbrev pub sort_of : Sort → machine.Sort
 sort_of (sort.Literal l) = machine.literal l
 sort_of (sort.Named n k) = machine.named n k
@@ -42,6 +43,7 @@ sort_of sort.CloseBracket = machine.close_bracket
 sort_of sort.Semicolon = machine.semicolon
 sort_of sort.Other = machine.other
 
+-- a form that waits for its right argument
 abbrev pub wait_of : Wait → machine.Wait
 wait_of (wait.Call f left p) = machine.for_call f (slot_with left) p
 wait_of (wait.One f p) = machine.for_monadic f p
@@ -53,6 +55,7 @@ wait_of (wait.Assign n p) = machine.for_assignment n p
 wait_of (wait.IndexAssign n qs p) = machine.for_indexed n (positions_with qs) p
 wait_of (wait.Output p) = machine.for_output p
 
+-- what takes an axis in brackets
 abbrev pub along_of : Along → machine.Along
 along_of (along.Reduces f p) = machine.reduces f p
 along_of (along.Reverses p) = machine.reverses p
@@ -65,6 +68,7 @@ abbrev pub bracket_on : Bracket → machine.Stack → machine.Stack
 bracket_on (bracket.Parenthesis p) o = machine.in_parenthesis p o
 bracket_on (bracket.Subscript a qs p) o = machine.in_subscript (tree_of a) (positions_with qs) p o
 
+-- a form that waits, or a bracket, above what is open
 abbrev pub open_on : Open → machine.Stack → machine.Stack
 open_on (open_one.Waiting w) o = machine.waiting (wait_of w) o
 open_on (open_one.Inside b) o = bracket_on b o
@@ -74,6 +78,7 @@ abbrev pub all_on : machine.Stack → List Open → machine.Stack
 all_on o [] = o
 all_on o (w ∷ ws) = all_on (open_on w o) ws
 
+-- all that is open, above the bottom of the statement
 abbrev pub stack_of : Opens → machine.Stack
 stack_of o = all_on (machine.bottom o.branch) o.items
 
@@ -82,9 +87,11 @@ abbrev pub bracket_or_bottom : Option Bracket → Opens → machine.Stack
 bracket_or_bottom None o = machine.bottom o.branch
 bracket_or_bottom (Some b) o = bracket_on b (stack_of o)
 
+-- a complete expression, and what it stands in
 abbrev pub wound_of : Closed → machine.Wound
 wound_of w = record { tree = tree_of w.tree; stack = bracket_or_bottom w.bracket w.opens }
 
+-- what stands last
 abbrev pub status_of : Status → machine.Status
 status_of status.First = machine.first
 status_of status.Must = machine.must
@@ -100,6 +107,7 @@ status_of (status.AfterJotDot left p) = machine.after_jot_dot (tree_of left) p
 status_of (status.AfterDot f left p) = machine.after_dot f (tree_of left) p
 status_of (status.AfterQuad p) = machine.after_quad p
 
+-- what is open, and what stands last
 abbrev pub reader_of : Reader → machine.State
 reader_of r = machine.state (stack_of r.opens) (status_of r.status)
 
@@ -108,6 +116,7 @@ abbrev pub reading_of : Option Reader → Option machine.State
 reading_of None = None
 reading_of (Some r) = Some (reader_of r)
 
+-- the statement at the end, or none where the tokens may not end there
 abbrev pub ending_of : Option Statement → Option plain.Statement
 ending_of None = None
 ending_of (Some s) = Some (statement_of s)

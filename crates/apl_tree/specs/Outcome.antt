@@ -15,6 +15,7 @@ pub data Stops (hs : List Heading) (n : ℕ) (ts : List Token) (column : ℕ) : 
   at_end : (x : machine.State) → machine.run hs n (Some machine.start) ts ≡ Some x → machine.finished x ≡ None →
       column ≡ past_last ts → Stops hs n ts column
 
+-- the statement that the reader gives, or the column at which it stops
 abbrev pub IsReading : List Heading → ℕ → List Token → Reading → Type 0
 IsReading hs n ts (reading.Done s) = machine.read hs n ts ≡ Some (statement_of s)
 IsReading hs n ts (reading.Stopped column) = Stops hs n ts column

@@ -1,3 +1,5 @@
+//! How many arguments the function of a name has.
+
 ghost use Rattle.std.specs.Prelude.{◌≡◌, List};
 ghost use Rattle.apl_model.specs.Grammar as grammar;
 ghost use Rattle.apl_model.specs.declared.tokens.Heading.{Heading};
@@ -9,7 +11,8 @@ use apl_model::Classes;
 pub(crate) trait NameClasses {
     ghost headings: { Self → List Heading };
 
-    /// How many arguments the function of this name has, or none where the name heads no definition.
+    /// How many arguments the function of this name has, or none where the name heads no
+    /// definition.
     fn arguments(&self, name: &Name) -> Option<u8>
         ensures { result ≡ grammar.arguments_of (headings self.now) name.now };
 }
@@ -17,6 +20,7 @@ pub(crate) trait NameClasses {
 impl NameClasses for Classes {
     ghost headings = { λ c. c.headings };
 
+    // One heading after the other.
     fn arguments(&self, name: &Name) -> Option<u8> {
         arguments_of(self, name)
     }

@@ -1,3 +1,5 @@
+//! What a glyph is to the reader.
+
 ghost use Rattle.std.specs.Prelude.{◌≡◌, drop};
 ghost use Rattle.apl_model.proofs.Machine.{sort_in, entries};
 ghost use Rattle.apl_tree.specs.Mirror.{sort_of};

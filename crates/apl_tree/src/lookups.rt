@@ -1,3 +1,5 @@
+//! Classes of names prepared for quick look-ups.
+
 ghost use Rattle.std.specs.Prelude.{◌≡◌, IfOk};
 ghost use Rattle.apl_model.specs.Grammar as grammar;
 ghost use Rattle.apl_tree.specs.Prepared.{Answers};
@@ -37,8 +39,8 @@ impl Lookup {
         Ok(Lookup { classes, by_text })
     }
 
-    /// How many arguments the function of this name has, or none where the name heads no definition. It takes the time
-    /// of one look-up in an ordered map.
+    /// How many arguments the function of this name has, or none where the name heads no
+    /// definition. It takes the time of one look-up in an ordered map.
     pub fn arguments(&self, name: &Name) -> Option<u8>
         ensures { result ≡ grammar.arguments_of self.now name.now }
     {
@@ -49,6 +51,7 @@ impl Lookup {
 impl NameClasses for Lookup {
     ghost headings = { λ l. l };
 
+    // One look-up in the map.
     fn arguments(&self, name: &Name) -> Option<u8> {
         Lookup::arguments(self, name)
     }

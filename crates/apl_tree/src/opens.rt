@@ -1,3 +1,4 @@
+//! What is open while a statement is read: forms that wait for their right argument, and brackets.
 #![tactic(auto, using(crate::proofs::Opened::opened))]
 
 ghost use Rattle.std.specs.Prelude.{◌≡◌, IfOk};
@@ -67,8 +68,12 @@ impl Opens {
 
     /// Without the innermost bracket, where nothing waits inside it.
     pub fn leave(mut self) -> Left
-        ensures closed { (s : Slot) → machine.close_subscript s (stack_of self) ≡ machine.close_subscript s (bracket_or_bottom result.bracket result.opens) }
-        ensures parted { (s : Slot) → machine.next_position s (stack_of self) ≡ machine.next_position s (bracket_or_bottom result.bracket result.opens) }
+        ensures closed { (s : Slot)
+            → machine.close_subscript s (stack_of self)
+            ≡ machine.close_subscript s (bracket_or_bottom result.bracket result.opens) }
+        ensures parted { (s : Slot)
+            → machine.next_position s (stack_of self)
+            ≡ machine.next_position s (bracket_or_bottom result.bracket result.opens) }
     {
         let bracket = match self.items.pop() {
             Some(Open::Inside { bracket }) => Some(bracket),
@@ -97,7 +102,8 @@ impl Opens {
         Ok(self)
     }
 
-    /// The expression that ends with this operand: what waits for it takes it, up to the innermost bracket.
+    /// The expression that ends with this operand: what waits for it takes it, up to the innermost
+    /// bracket.
     pub fn close(mut self, alloc: Global, operand: Expr) -> Result<Closed, NoMemory>
         ensures { IfOk result (λ w. wound_of w ≡ machine.wind (tree_of operand) (stack_of self)) }
     {

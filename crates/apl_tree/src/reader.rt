@@ -1,3 +1,5 @@
+//! The reader of one statement: what is open, and what stands last.
+
 use crate::opens::Opens;
 use crate::waits::Along;
 use apl_base::{Dya, Mon, Place};

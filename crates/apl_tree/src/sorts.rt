@@ -1,3 +1,5 @@
+//! What a token is to the reader.
+
 ghost use Rattle.std.specs.Prelude.{◌≡◌, IfOk};
 ghost use Rattle.apl_model.proofs.Machine.{sort};
 ghost use Rattle.apl_tree.specs.Mirror.{sort_of};

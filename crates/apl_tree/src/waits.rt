@@ -1,6 +1,11 @@
+//! Forms that wait for their right argument, and what takes an axis.
+#![tactic(auto, using(apl_model::proofs::Bridge::bridges))]
+
 ghost use Rattle.std.specs.Prelude.{◌≡◌, IfOk};
+ghost use Rattle.apl_model.proofs.Bridge.{positions_with};
 ghost use Rattle.apl_model.proofs.Machine as machine;
 ghost use Rattle.apl_model.specs.Mirror.{tree_of};
+ghost use Rattle.apl_model.specs.Tree as plain;
 ghost use Rattle.apl_tree.specs.Mirror.{wait_of, along_of};
 
 use apl_base::{Dya, Name, NoMemory, Place};
@@ -88,19 +93,8 @@ impl Wait {
                 right,
                 place,
             },
-            Wait::Outer { f, left, place } => Expr::Outer {
-                f,
-                left,
-                right,
-                place,
-            },
-            Wait::Inner { f, g, left, place } => Expr::Inner {
-                f,
-                g,
-                left,
-                right,
-                place,
-            },
+            Wait::Outer { f, left, place } => outer_product(f, left, right, place),
+            Wait::Inner { f, g, left, place } => inner_product(f, g, left, right, place),
             Wait::Assign { name, place } => Expr::Assign {
                 name,
                 value: right,
@@ -110,17 +104,55 @@ impl Wait {
                 name,
                 positions,
                 place,
-            } => Expr::IndexAssign {
-                name,
-                positions,
-                value: right,
-                place,
-            },
+            } => indexed_assignment(name, positions, right, place),
             Wait::Output { place } => Expr::Output {
                 value: right,
                 place,
             },
         }
+    }
+}
+
+/// The outer product of two expressions.
+fn outer_product(f: Dya, left: Boxed<Expr>, right: Boxed<Expr>, place: Place) -> Expr
+    ensures { tree_of result ≡ plain.outer_product f (tree_of left) (tree_of right) place }
+{
+    Expr::Outer {
+        f,
+        left,
+        right,
+        place,
+    }
+}
+
+/// The inner product of two expressions.
+fn inner_product(f: Dya, g: Dya, left: Boxed<Expr>, right: Boxed<Expr>, place: Place) -> Expr
+    ensures { tree_of result ≡ plain.inner_product f g (tree_of left) (tree_of right) place }
+{
+    Expr::Inner {
+        f,
+        g,
+        left,
+        right,
+        place,
+    }
+}
+
+/// The assignment of an expression to elements of a variable.
+fn indexed_assignment(
+    name: Name,
+    positions: Items<Option<Expr>>,
+    value: Boxed<Expr>,
+    place: Place,
+) -> Expr
+    ensures { tree_of result
+        ≡ plain.indexed_assignment name (positions_with positions) (tree_of value) place }
+{
+    Expr::IndexAssign {
+        name,
+        positions,
+        value,
+        place,
     }
 }
 

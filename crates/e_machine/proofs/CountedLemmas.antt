@@ -1,12 +1,14 @@
 -- Leaves over a store that only counted, and what was counted.
-use Rattle.std.proofs.Common.{◌≡◌, ℕ, ◌+◌, ◌-◌, ◌^◌, ◌≤◌, List, refl, sym, ap, ◌∙◌, subst, arith}
+use Rattle.std.proofs.Common.{◌≡◌, ℕ, ◌+◌, List, refl, sym, ap, ◌∙◌, subst}
 use Rattle.array_store.specs.declared.ids.Counts.{Counts}
-use Rattle.array_store.specs.Stores.{StoreView, counted}
+use Rattle.array_store.specs.Stores.{StoreView, AreCounts}
 use Rattle.array_store.specs.Follows.{Follows, none}
-use Rattle.array_store.specs.Counting.{OnlyCounted, OnlyFetched}
-use Rattle.array_store.proofs.FollowsLemmas.{follows_counts, follows_same}
+use Rattle.array_store.specs.Counting.{OnlyCounted, ComputedJust, after_applications}
+use Rattle.array_store.proofs.FollowsLemmas.{follows_same}
+use Rattle.array_store.proofs.CountingLemmas.{ComputedJust-none, ComputedJust-after_fetches, ComputedJust-after_applications}
 use Rattle.drag_along.specs.declared.leaves.Leaf.{Leaf}
 use Rattle.drag_along.specs.declared.leaves.Leaf.TheVariants.{Stored, Gen}
+use Rattle.drag_along.specs.Nodes.{stored_of_leaf}
 use Rattle.drag_along.specs.Meaning.{leaf_cell, leaf_array}
 use Rattle.drag_along.specs.Lawful.{IsLawfulLeaf}
 use Rattle.e_machine.specs.Forced.{IsRead}
@@ -37,57 +39,15 @@ pub leaf_array-counted : (old new : StoreView) (shape : List ℕ) (leaf : Leaf) 
 leaf_array-counted old new shape leaf only =
     ap (λ (s : StoreView). leaf_array s shape leaf) only ∙ leaf_array-counts old new.counts shape leaf
 
--- a count of what was done moves no holder
-pub follows-counted : (old new : StoreView) → OnlyCounted old new → Follows old new none none
-follows-counted old new only =
-    subst (λ (s : StoreView). Follows old s none none) (sym only) (follows_counts old new.counts)
-
--- nor does what did nothing
+-- what did nothing moves no holder
 pub follows-unchanged : (old new : StoreView) → new ≡ old → Follows old new none none
 follows-unchanged old new e = subst (λ (s : StoreView). Follows old s none none) (sym e) (follows_same old none)
 
--- one count after another
-pub OnlyCounted-then : (a b c : StoreView) → OnlyCounted a b → OnlyCounted b c → OnlyCounted a c
-OnlyCounted-then a b c p q =
-    q ∙ ap (λ (s : StoreView). let t : StoreView = record s { counts = c.counts } in t) p
+-- ---- one element read, and one function applied
 
--- ---- cells fetched
+pub just_read : (old new : StoreView) (leaf : Leaf) → AreCounts old.counts → IsRead old new leaf → ComputedJust old new 0 (stored_of_leaf leaf + 0)
+just_read old new (Stored owner desc kind) small read = subst (λ (s : StoreView). ComputedJust old s 0 1) (sym read) (ComputedJust-after_fetches old 1 small)
+just_read old new (Gen desc kind) small read = subst (λ (s : StoreView). ComputedJust old s 0 0) (sym read) (ComputedJust-none old small)
 
-pub OnlyFetched-none : (s : StoreView) (most : ℕ) → OnlyFetched s s most
-OnlyFetched-none s most = record {
-  only = refl;
-  fetched = record { low = omega arith; high = omega arith };
-  applied = refl;
-  made = refl;
-}
-
-pub OnlyFetched-then : (a b c : StoreView) (m n : ℕ) → OnlyFetched a b m → OnlyFetched b c n → OnlyFetched a c (m + n)
-OnlyFetched-then a b c m n p q = record {
-  only = OnlyCounted-then a b c p.only q.only;
-  fetched = record { low = omega (arith, p.fetched.low, q.fetched.low); high = omega (arith, p.fetched.high, q.fetched.high) };
-  applied = q.applied ∙ p.applied;
-  made = q.made ∙ p.made;
-}
-
--- a leaf's element costs one fetch at most, and the count stays below its last value
-fetched_one : (old new : StoreView) → old.counts.fetched ≤ 2 ^ 64 - 1 → new ≡ record old { counts = record old.counts { fetched = counted old.counts.fetched 1 } } → OnlyFetched old new 1
-fetched_one old new small e =
-    subst (λ (s : StoreView). OnlyFetched old s 1) (sym e) (record {
-      only = refl;
-      fetched = record { low = omega arith; high = omega arith };
-      applied = refl;
-      made = refl;
-    })
-
-pub IsRead-fetched : (old new : StoreView) (leaf : Leaf) → old.counts.fetched ≤ 2 ^ 64 - 1 → IsRead old new leaf → OnlyFetched old new 1
-IsRead-fetched old new (Stored owner desc kind) small read = fetched_one old new small read
-IsRead-fetched old new (Gen desc kind) small read =
-    subst (λ (s : StoreView). OnlyFetched old s 1) (sym read) (OnlyFetched-none old 1)
-
-pub IsRead-small : (old new : StoreView) (leaf : Leaf) → old.counts.fetched ≤ 2 ^ 64 - 1 → IsRead old new leaf → new.counts.fetched ≤ 2 ^ 64 - 1
-IsRead-small old new (Stored owner desc kind) small read =
-    let e : new.counts.fetched ≡ counted old.counts.fetched 1 = ap (λ (s : StoreView). s.counts.fetched) read in
-    omega arith
-IsRead-small old new (Gen desc kind) small read =
-    let e : new.counts.fetched ≡ old.counts.fetched = ap (λ (s : StoreView). s.counts.fetched) read in
-    omega arith
+pub just_applied : (old new : StoreView) → AreCounts old.counts → new ≡ after_applications old 1 → ComputedJust old new 1 0
+just_applied old new small applied = subst (λ (s : StoreView). ComputedJust old s 1 0) (sym applied) (ComputedJust-after_applications old 1 small)

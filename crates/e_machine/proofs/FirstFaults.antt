@@ -10,7 +10,9 @@ use Rattle.apl_base.specs.declared.cells.Elem.{Elem}
 use Rattle.apl_base.specs.Array.{IsIndex, size_of, index_at, place_at}
 use Rattle.apl_base.specs.Number.{IsCell}
 use Rattle.apl_base.proofs.Sizes.{index_at-place_at, place_at-below}
-use Rattle.array_store.specs.Stores.{StoreView}
+use Rattle.array_store.specs.Stores.{StoreView, AreCounts}
+use Rattle.array_store.specs.Counting.{OnlyComputed, ComputedJust}
+use Rattle.array_store.proofs.CountingLemmas.{OnlyComputed-none, OnlyComputed-then, OnlyComputed-more, ComputedJust-none, ComputedJust-then}
 use Rattle.drag_along.specs.declared.nodes.Node.{Node}
 use Rattle.drag_along.specs.declared.nodes.Node.TheVariants.{Operand, One, Two}
 use Rattle.drag_along.specs.Nodes.{functions_in, stored_in, kind_of_nodes}
@@ -20,8 +22,7 @@ use Rattle.drag_along.specs.Views.{only_leaf}
 use Rattle.iter_stack.specs.Indices.{walk}
 use Rattle.iter_stack.proofs.Walks.{Next, walk-next, walk-all}
 use Rattle.e_machine.specs.Forced.{applications, fetches}
-use Rattle.e_machine.specs.Runs.{defined, ComputedJust, ComputedUpTo, FailsFirst, GainsCell, Passes, IsVisit, HasElements}
-use Rattle.e_machine.proofs.StackRuns.{just_nothing, just_then}
+use Rattle.e_machine.specs.Runs.{defined, FailsFirst, GainsCell, Passes, IsVisit, HasElements}
 use Rattle.e_machine.proofs.FirstNodes.{values_counted, fails_counted}
 
 -- after p places: the nodes before `first` fail at none of them, `first` fails somewhere if it is not the number of
@@ -33,34 +34,40 @@ pub record Searched (s now : StoreView) (g : SegmentView) (p first : ℕ) (cells
   pub count : first ≡ length g.nodes → length cells ≡ p
   pub values : first ≡ length g.nodes → (q : ℕ) → q < p → values_at s (index_at g.shape q) g.nodes [] ≡ defined (record { kind = Num; cell = get_or cells q (pos 0) } ∷ [])
   pub lawful : first ≡ length g.nodes → All (IsCell Num) cells
-  pub applied : ℕ
-  pub fetched : ℕ
-  pub few_applied : applied ≤ p * functions_in g.nodes
-  pub few_fetched : fetched ≤ p * stored_in g.nodes
-  pub all_applied : first ≡ length g.nodes → applied ≡ p * functions_in g.nodes
-  pub all_fetched : first ≡ length g.nodes → fetched ≡ p * stored_in g.nodes
-  pub just : ComputedJust s now applied fetched
+  pub cost : OnlyComputed s now (p * functions_in g.nodes) (p * stored_in g.nodes)
+  pub exact : first ≡ length g.nodes → ComputedJust s now (p * functions_in g.nodes) (p * stored_in g.nodes)
 
-pub search_starts : (s : StoreView) (g : SegmentView) (cells : List ℤ) → cells ≡ [] → Searched s s g 0 (length g.nodes) cells
-search_starts s g cells empty = record {
+-- nothing, over no place
+just_none : (s : StoreView) (f m : ℕ) → AreCounts s.counts → ComputedJust s s (0 * f) (0 * m)
+just_none s f m small =
+    let zero_f : 0 ≡ 0 * f = omega arith in
+    let zero_m : 0 ≡ 0 * m = omega arith in
+    subst (λ (n : ℕ). ComputedJust s s n (0 * m)) zero_f (subst (λ (n : ℕ). ComputedJust s s 0 n) zero_m (ComputedJust-none s small))
+
+pub search_starts : (s : StoreView) (g : SegmentView) (cells : List ℤ) → AreCounts s.counts → cells ≡ [] → Searched s s g 0 (length g.nodes) cells
+search_starts s g cells small empty = record {
   few = omega arith;
   clear = λ q h. absurd (omega (arith, h));
   found = λ h. absurd (omega (arith, h));
   count = λ h. ap length empty;
   values = λ h q below. absurd (omega (arith, below));
   lawful = λ h k d less. absurd (omega (arith, less, ap length empty));
-  applied = 0;
-  fetched = 0;
-  few_applied = omega arith;
-  few_fetched = omega arith;
-  all_applied = λ h. omega arith;
-  all_fetched = λ h. omega arith;
-  just = just_nothing s;
+  cost = OnlyComputed-none s (0 * functions_in g.nodes) (0 * stored_in g.nodes);
+  exact = λ h. just_none s (functions_in g.nodes) (stored_in g.nodes) small;
 }
 
 -- one more place costs at most what all nodes cost
-cost_next : (p m applied f : ℕ) → applied ≤ p * f → m ≤ f → applied + m ≤ (p + 1) * f
-cost_next p m applied f h g = omega (arith, h, g)
+cost_next : (s now next : StoreView) (p f m : ℕ) → OnlyComputed s now (p * f) (p * m) → OnlyComputed now next f m → OnlyComputed s next ((p + 1) * f) ((p + 1) * m)
+cost_next s now next p f m found one =
+    OnlyComputed-more s next (p * f + f) ((p + 1) * f) (p * m + m) ((p + 1) * m) (omega arith) (omega arith)
+    (OnlyComputed-then s now next (p * f) f (p * m) m found one)
+
+just_next : (s now next : StoreView) (p f m : ℕ) → ComputedJust s now (p * f) (p * m) → ComputedJust now next f m → ComputedJust s next ((p + 1) * f) ((p + 1) * m)
+just_next s now next p f m found one =
+    let more_f : p * f + f ≡ (p + 1) * f = omega arith in
+    let more_m : p * m + m ≡ (p + 1) * m = omega arith in
+    subst (λ (n : ℕ). ComputedJust s next n ((p + 1) * m)) more_f
+    (subst (λ (n : ℕ). ComputedJust s next (p * f + f) n) more_m (ComputedJust-then s now next (p * f) f (p * m) m found one))
 
 -- what holds at the places before and at this index holds at one place more
 clear_next : (s : StoreView) (g : SegmentView) (p k : ℕ) (i : List ℕ) → i ≡ index_at g.shape p → ((q : ℕ) → q < p → (j : ℕ) → j < k → fails_at s (index_at g.shape q) g.nodes j [] ≡ false) → ((j : ℕ) → j < k → fails_at s i g.nodes j [] ≡ false) → (q : ℕ) → q < p + 1 → (j : ℕ) → j < k → fails_at s (index_at g.shape q) g.nodes j [] ≡ false
@@ -72,9 +79,9 @@ clear_next s g p k i is old here q below j h = elim (cases_lt q p) [
 ]
 
 -- node k fails at the next place, which none before it does
-search_fails : (s now next : StoreView) (g : SegmentView) (p first k : ℕ) (cells after : List ℤ) (i : List ℕ) → Searched s now g p first cells → i ≡ index_at g.shape p → IsIndex g.shape i → k < first → FailsFirst now i g.nodes k → ComputedUpTo now next (functions_in g.nodes) (stored_in g.nodes) → Searched s next g (p + 1) k after
+search_fails : (s now next : StoreView) (g : SegmentView) (p first k : ℕ) (cells after : List ℤ) (i : List ℕ) → Searched s now g p first cells → i ≡ index_at g.shape p → IsIndex g.shape i → k < first → FailsFirst now i g.nodes k → OnlyComputed now next (functions_in g.nodes) (stored_in g.nodes) → Searched s next g (p + 1) k after
 search_fails s now next g p first k cells after i found is index less fault cost =
-    let same : (j : ℕ) → fails_at now i g.nodes j [] ≡ fails_at s i g.nodes j [] = λ j. fails_counted s now i g.nodes j [] found.just.only in
+    let same : (j : ℕ) → fails_at now i g.nodes j [] ≡ fails_at s i g.nodes j [] = λ j. fails_counted s now i g.nodes j [] found.cost.only in
     let most : first ≤ length g.nodes = found.few in
     record {
       few = omega arith;
@@ -83,31 +90,21 @@ search_fails s now next g p first k cells after i found is index less fault cost
       count = λ h. absurd (omega (arith, h));
       values = λ h. absurd (omega (arith, h));
       lawful = λ h. absurd (omega (arith, h));
-      applied = found.applied + cost.applied;
-      fetched = found.fetched + cost.fetched;
-      few_applied = cost_next p cost.applied found.applied (functions_in g.nodes) found.few_applied cost.few_applied;
-      few_fetched = cost_next p cost.fetched found.fetched (stored_in g.nodes) found.few_fetched cost.few_fetched;
-      all_applied = λ h. absurd (omega (arith, h));
-      all_fetched = λ h. absurd (omega (arith, h));
-      just = just_then s now next found.applied cost.applied found.fetched cost.fetched found.just cost.just;
+      cost = cost_next s now next p (functions_in g.nodes) (stored_in g.nodes) found.cost cost;
+      exact = λ h. absurd (omega (arith, h));
     }
 
 -- where a node has failed before, the cells are given up
-search_passes : (s now next : StoreView) (g : SegmentView) (p first : ℕ) (cells after : List ℤ) (i : List ℕ) → Searched s now g p first cells → i ≡ index_at g.shape p → first < length g.nodes → Passes now next i g.nodes first cells after → ComputedUpTo now next (functions_in g.nodes) (stored_in g.nodes) → Searched s next g (p + 1) first after
+search_passes : (s now next : StoreView) (g : SegmentView) (p first : ℕ) (cells after : List ℤ) (i : List ℕ) → Searched s now g p first cells → i ≡ index_at g.shape p → first < length g.nodes → Passes now next i g.nodes first cells after → OnlyComputed now next (functions_in g.nodes) (stored_in g.nodes) → Searched s next g (p + 1) first after
 search_passes s now next g p first cells after i found is some pass cost = record {
   few = found.few;
-  clear = clear_next s g p first i is found.clear (λ j h. sym (fails_counted s now i g.nodes j [] found.just.only) ∙ pass.none j h);
+  clear = clear_next s g p first i is found.clear (λ j h. sym (fails_counted s now i g.nodes j [] found.cost.only) ∙ pass.none j h);
   found = found.found;
   count = λ h. absurd (omega (arith, h, some));
   values = λ h. absurd (omega (arith, h, some));
   lawful = λ h. absurd (omega (arith, h, some));
-  applied = found.applied + cost.applied;
-  fetched = found.fetched + cost.fetched;
-  few_applied = cost_next p cost.applied found.applied (functions_in g.nodes) found.few_applied cost.few_applied;
-  few_fetched = cost_next p cost.fetched found.fetched (stored_in g.nodes) found.few_fetched cost.few_fetched;
-  all_applied = λ h. absurd (omega (arith, h, some));
-  all_fetched = λ h. absurd (omega (arith, h, some));
-  just = just_then s now next found.applied cost.applied found.fetched cost.fetched found.just cost.just;
+  cost = cost_next s now next p (functions_in g.nodes) (stored_in g.nodes) found.cost cost;
+  exact = λ h. absurd (omega (arith, h, some));
 }
 
 -- one more cell
@@ -123,21 +120,16 @@ values_next s g p cells cell i is many old here q below =
           ap (λ (x : List ℕ). values_at s x g.nodes []) at ∙ here ∙ ap one (sym read)
     ]
 
-search_gains : (s now next : StoreView) (g : SegmentView) (p first : ℕ) (cells : List ℤ) (i : List ℕ) (cell : ℤ) → Searched s now g p first cells → i ≡ index_at g.shape p → first ≡ length g.nodes → ((j : ℕ) → j < first → fails_at now i g.nodes j [] ≡ false) → IsCell Num cell → values_at now i g.nodes [] ≡ defined (record { kind = Num; cell = cell } ∷ []) → ComputedJust now next (functions_in g.nodes) (stored_in g.nodes) → Searched s next g (p + 1) first (cells ++ cell ∷ [])
-search_gains s now next g p first cells i cell found is whole none lawful value just = record {
+search_gains : (s now next : StoreView) (g : SegmentView) (p first : ℕ) (cells : List ℤ) (i : List ℕ) (cell : ℤ) → Searched s now g p first cells → i ≡ index_at g.shape p → first ≡ length g.nodes → ((j : ℕ) → j < first → fails_at now i g.nodes j [] ≡ false) → IsCell Num cell → values_at now i g.nodes [] ≡ defined (record { kind = Num; cell = cell } ∷ []) → ComputedJust now next (functions_in g.nodes) (stored_in g.nodes) → OnlyComputed now next (functions_in g.nodes) (stored_in g.nodes) → Searched s next g (p + 1) first (cells ++ cell ∷ [])
+search_gains s now next g p first cells i cell found is whole none lawful value just cost = record {
   few = found.few;
-  clear = clear_next s g p first i is found.clear (λ j h. sym (fails_counted s now i g.nodes j [] found.just.only) ∙ none j h);
+  clear = clear_next s g p first i is found.clear (λ j h. sym (fails_counted s now i g.nodes j [] found.cost.only) ∙ none j h);
   found = found.found;
   count = λ h. omega (arith, length_push cells cell, found.count whole);
-  values = λ h. values_next s g p cells cell i is (found.count whole) (found.values whole) (sym (values_counted s now i g.nodes [] found.just.only) ∙ value);
+  values = λ h. values_next s g p cells cell i is (found.count whole) (found.values whole) (sym (values_counted s now i g.nodes [] found.cost.only) ∙ value);
   lawful = λ h. All-push (IsCell Num) cells cell (found.lawful whole) lawful;
-  applied = found.applied + functions_in g.nodes;
-  fetched = found.fetched + stored_in g.nodes;
-  few_applied = cost_next p (functions_in g.nodes) found.applied (functions_in g.nodes) found.few_applied (omega arith);
-  few_fetched = cost_next p (stored_in g.nodes) found.fetched (stored_in g.nodes) found.few_fetched (omega arith);
-  all_applied = λ h. omega (arith, found.all_applied h);
-  all_fetched = λ h. omega (arith, found.all_fetched h);
-  just = just_then s now next found.applied (functions_in g.nodes) found.fetched (stored_in g.nodes) found.just just;
+  cost = cost_next s now next p (functions_in g.nodes) (stored_in g.nodes) found.cost cost;
+  exact = λ h. just_next s now next p (functions_in g.nodes) (stored_in g.nodes) (found.exact h) just;
 }
 
 -- what the loop over the indices keeps: a place has been reached, and what is left is the walk from there
@@ -147,15 +139,15 @@ pub record Reached (s now : StoreView) (g : SegmentView) (left : List (List ℕ)
   pub rest : left ≡ drop place (walk false g.shape)
   pub searched : Searched s now g place first cells
 
-pub reach_starts : (s : StoreView) (g : SegmentView) (left : List (List ℕ)) (cells : List ℤ) → left ≡ walk false g.shape → cells ≡ [] → Reached s s g left (length g.nodes) cells
-reach_starts s g left cells all empty = record { place = 0; within = omega arith; rest = all; searched = search_starts s g cells empty }
+pub reach_starts : (s : StoreView) (g : SegmentView) (left : List (List ℕ)) (cells : List ℤ) → AreCounts s.counts → left ≡ walk false g.shape → cells ≡ [] → Reached s s g left (length g.nodes) cells
+reach_starts s g left cells small all empty = record { place = 0; within = omega arith; rest = all; searched = search_starts s g cells small empty }
 
 -- the index that comes next is one of the segment's
 pub reach_index : (s now : StoreView) (g : SegmentView) (left rest : List (List ℕ)) (first : ℕ) (cells : List ℤ) (i : List ℕ) → Reached s now g left first cells → left ≡ i ∷ rest → IsIndex g.shape i
 reach_index s now g left rest first cells i found comes =
     let next : Next false g.shape found.place i rest = walk-next false g.shape found.place i rest (sym found.rest ∙ comes) in next.lawful
 
-pub reach_next : (s now next : StoreView) (g : SegmentView) (left rest : List (List ℕ)) (first : ℕ) (cells after : List ℤ) (i : List ℕ) (o : Option ℕ) → Reached s now g left first cells → left ≡ i ∷ rest → IsVisit now next i g.nodes first cells after o → ComputedUpTo now next (functions_in g.nodes) (stored_in g.nodes) → Reached s next g rest (unwrap_or o first) after
+pub reach_next : (s now next : StoreView) (g : SegmentView) (left rest : List (List ℕ)) (first : ℕ) (cells after : List ℤ) (i : List ℕ) (o : Option ℕ) → Reached s now g left first cells → left ≡ i ∷ rest → IsVisit now next i g.nodes first cells after o → OnlyComputed now next (functions_in g.nodes) (stored_in g.nodes) → Reached s next g rest (unwrap_or o first) after
 reach_next s now next g left rest first cells after i (Some k) found comes visit cost =
     let turn : Next false g.shape found.place i rest = walk-next false g.shape found.place i rest (sym found.rest ∙ comes) in
     record {
@@ -176,7 +168,7 @@ reach_next s now next g left rest first cells after i None found comes visit cos
             let whole : first ≡ length g.nodes = omega (arith, most, found.searched.few) in
             let gain : GainsCell now next i g.nodes cells after = visit.all whole in
             subst (λ (cs : List ℤ). Searched s next g (found.place + 1) first cs) (sym gain.gained)
-            (search_gains s now next g found.place first cells i gain.cell found.searched turn.is whole visit.none gain.lawful gain.leaves gain.just)
+            (search_gains s now next g found.place first cells i gain.cell found.searched turn.is whole visit.none gain.lawful gain.leaves gain.just cost)
       ];
     }
 
@@ -217,8 +209,6 @@ many_kind (Two f p ∷ xs) h = refl
 
 computes : (s now : StoreView) (g : SegmentView) (p first : ℕ) (cells : List ℤ) → IsSegment g → only_leaf g.nodes ≡ None → Searched s now g p first cells → p ≡ size_of g.shape → first ≡ length g.nodes → HasElements s now g cells
 computes s now g p first cells seg many found all whole =
-    let f : found.applied ≡ applications g = omega (arith, found.all_applied whole, ap (λ (n : ℕ). n * functions_in g.nodes) all) in
-    let c : found.fetched ≡ fetches g = omega (arith, found.all_fetched whole, ap (λ (n : ℕ). n * stored_in g.nodes) all) in
     record {
       array = record {
         none = λ k fails. elim (cases_lt k first) [
@@ -234,7 +224,7 @@ computes s now g p first cells seg many found all whole =
             ∙ found.values whole (place_at g.shape i) (omega (arith, below, all));
       };
       lawful = found.lawful whole;
-      just = subst (λ (n : ℕ). ComputedJust s now n (fetches g)) f (subst (λ (n : ℕ). ComputedJust s now found.applied n) c found.just);
+      just = subst (λ (n : ℕ). ComputedJust s now (n * functions_in g.nodes) (n * stored_in g.nodes)) all (found.exact whole);
     }
 
 pub reach_computes : (s now : StoreView) (g : SegmentView) (left : List (List ℕ)) (first : ℕ) (cells : List ℤ) → IsSegment g → only_leaf g.nodes ≡ None → Reached s now g left first cells → left ≡ [] → length g.nodes ≤ first → HasElements s now g cells
@@ -244,31 +234,16 @@ reach_computes s now g left first cells seg many found none past =
 
 -- ---- on the way
 
-upto : (p n f m : ℕ) → p ≤ n → m ≤ p * f → m ≤ n * f
-upto p n f m h e =
-    let much : p * f ≤ n * f = mul-le-mul_right f h in
-    omega (arith, e, much)
+upto : (s now : StoreView) (p n f m : ℕ) → p ≤ n → OnlyComputed s now (p * f) (p * m) → OnlyComputed s now (n * f) (n * m)
+upto s now p n f m h cost = OnlyComputed-more s now (p * f) (n * f) (p * m) (n * m) (mul-le-mul_right f h) (mul-le-mul_right m h) cost
 
 -- so far no more was done than over all places
-pub reach_costs : (s now : StoreView) (g : SegmentView) (left : List (List ℕ)) (first : ℕ) (cells : List ℤ) → Reached s now g left first cells → ComputedUpTo s now (applications g) (fetches g)
-reach_costs s now g left first cells found = record {
-  applied = found.searched.applied;
-  fetched = found.searched.fetched;
-  few_applied = upto found.place (size_of g.shape) (functions_in g.nodes) found.searched.applied found.within found.searched.few_applied;
-  few_fetched = upto found.place (size_of g.shape) (stored_in g.nodes) found.searched.fetched found.within found.searched.few_fetched;
-  just = found.searched.just;
-}
+pub reach_costs : (s now : StoreView) (g : SegmentView) (left : List (List ℕ)) (first : ℕ) (cells : List ℤ) → Reached s now g left first cells → OnlyComputed s now (applications g) (fetches g)
+reach_costs s now g left first cells found = upto s now found.place (size_of g.shape) (functions_in g.nodes) (stored_in g.nodes) found.within found.searched.cost
 
 -- nor with one place more
-pub reach_costs_next : (s now next : StoreView) (g : SegmentView) (left rest : List (List ℕ)) (first : ℕ) (cells : List ℤ) (i : List ℕ) → Reached s now g left first cells → left ≡ i ∷ rest → ComputedUpTo now next (functions_in g.nodes) (stored_in g.nodes) → ComputedUpTo s next (applications g) (fetches g)
+pub reach_costs_next : (s now next : StoreView) (g : SegmentView) (left rest : List (List ℕ)) (first : ℕ) (cells : List ℤ) (i : List ℕ) → Reached s now g left first cells → left ≡ i ∷ rest → OnlyComputed now next (functions_in g.nodes) (stored_in g.nodes) → OnlyComputed s next (applications g) (fetches g)
 reach_costs_next s now next g left rest first cells i found comes cost =
     let turn : Next false g.shape found.place i rest = walk-next false g.shape found.place i rest (sym found.rest ∙ comes) in
-    let f : ℕ = functions_in g.nodes in
-    let c : ℕ = stored_in g.nodes in
-    record {
-      applied = found.searched.applied + cost.applied;
-      fetched = found.searched.fetched + cost.fetched;
-      few_applied = upto (found.place + 1) (size_of g.shape) f (found.searched.applied + cost.applied) (omega (arith, turn.below)) (cost_next found.place cost.applied found.searched.applied f found.searched.few_applied cost.few_applied);
-      few_fetched = upto (found.place + 1) (size_of g.shape) c (found.searched.fetched + cost.fetched) (omega (arith, turn.below)) (cost_next found.place cost.fetched found.searched.fetched c found.searched.few_fetched cost.few_fetched);
-      just = just_then s now next found.searched.applied cost.applied found.searched.fetched cost.fetched found.searched.just cost.just;
-    }
+    upto s next (found.place + 1) (size_of g.shape) (functions_in g.nodes) (stored_in g.nodes) (omega (arith, turn.below))
+    (cost_next s now next found.place (functions_in g.nodes) (stored_in g.nodes) found.searched.cost cost)

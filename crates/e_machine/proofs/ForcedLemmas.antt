@@ -1,5 +1,5 @@
 -- Lemmas on what is answered: leaves that stand for what a segment means, and what was counted.
-use Rattle.std.proofs.Common.{◌≡◌, ℕ, zero, suc, ◌^◌, ◌<◌, ◌≤◌, ℤ, false, IsTrue, List, [], ◌∷◌, Option, Some, None, refl, sym, ap, ◌∙◌, subst, arith}
+use Rattle.std.proofs.Common.{◌≡◌, ℕ, zero, suc, ℤ, false, IsTrue, List, [], ◌∷◌, Option, Some, None, refl, sym, ap, ◌∙◌, subst}
 use Rattle.std.specs.Prelude.{slice_get}
 use Rattle.std.specs.Option.{option_map}
 use Rattle.std.specs.List.{AllByRecursion}
@@ -9,10 +9,9 @@ use Rattle.apl_base.specs.declared.cells.Interval.{Interval}
 use Rattle.apl_base.specs.declared.faults.Place.{Place}
 use Rattle.apl_base.specs.Array.{Array, IsIndex}
 use Rattle.apl_base.specs.Interval.{InInterval}
-use Rattle.array_store.specs.declared.ids.Counts.{Counts}
-use Rattle.array_store.specs.Stores.{StoreView, IsStore, HasRoom, counted, new_owner, Makes}
-use Rattle.array_store.specs.Counting.{RoseBy, OnlyComputed, Computed}
-use Rattle.array_store.proofs.StoreLemmas.{IsStore-counted}
+use Rattle.array_store.specs.Stores.{StoreView, AreCounts, HasRoom, new_owner, Makes}
+use Rattle.array_store.specs.Counting.{OnlyComputed}
+use Rattle.array_store.proofs.CountingLemmas.{Computed-just}
 use Rattle.drag_along.specs.declared.leaves.Leaf.{Leaf}
 use Rattle.drag_along.specs.declared.nodes.Node.{Node}
 use Rattle.drag_along.specs.declared.nodes.Node.TheVariants.{Operand, One, Two}
@@ -25,49 +24,8 @@ use Rattle.drag_along.specs.Holding.{HeldOnceMore}
 use Rattle.drag_along.proofs.EntryLemmas.{only_meaning}
 use Rattle.drag_along.proofs.OneLeafLemmas.{one_leaf_means, array_within}
 use Rattle.e_machine.specs.Forced.{IsHeld, IsMade, IsHeldOrMade, IsForced, IsFault, elements_of, applications, fetches}
-use Rattle.e_machine.specs.Runs.{Rises, ComputedJust, ComputedUpTo, HasElements}
+use Rattle.e_machine.specs.Runs.{HasElements}
 use Rattle.e_machine.proofs.WholeLemmas.{stands-made}
-
--- ---- counts
-
--- the counts of a store are numbers of a machine
-pub record AreMachineCounts (c : Counts) : Type 0 where
-  pub applied : c.applied < 2 ^ 64
-  pub fetched : c.fetched < 2 ^ 64
-
-rose : (old new much most : ℕ) → old < 2 ^ 64 → Rises old new much → much ≤ most → RoseBy old new most
-rose old new much most small rises few =
-    let e : new ≡ counted old much = rises small in
-    record { low = omega arith; high = omega arith }
-
-pub only_computed : (old new : StoreView) (functions cells : ℕ) → AreMachineCounts old.counts → ComputedUpTo old new functions cells → OnlyComputed old new functions cells
-only_computed old new functions cells small h = record {
-  only = h.just.only;
-  applied = rose old.counts.applied new.counts.applied h.applied functions small.applied h.just.applied h.few_applied;
-  fetched = rose old.counts.fetched new.counts.fetched h.fetched cells small.fetched h.just.fetched h.few_fetched;
-  made = h.just.made;
-}
-
-pub computed_nothing : (s : StoreView) (functions cells : ℕ) → OnlyComputed s s functions cells
-computed_nothing s functions cells = record {
-  only = refl;
-  applied = record { low = omega arith; high = omega arith };
-  fetched = record { low = omega arith; high = omega arith };
-  made = refl;
-}
-
-pub computed_all : (old new : StoreView) (functions cells : ℕ) → AreMachineCounts old.counts → ComputedJust old new functions cells → Computed old new functions cells
-computed_all old new functions cells small just = record {
-  all = only_computed old new functions cells small (record { applied = functions; fetched = cells; few_applied = omega arith; few_fetched = omega arith; just = just });
-  exact = just.applied small.applied;
-}
-
--- a store that only computed is one
-pub store_computed : (s t : StoreView) (functions cells : ℕ) → ComputedUpTo s t functions cells → IsStore s → IsStore t
-store_computed s t functions cells h store =
-    let applied : t.counts.applied ≡ counted s.counts.applied h.applied = h.just.applied store.counts.applied in
-    let fetched : t.counts.fetched ≡ counted s.counts.fetched h.fetched = h.just.fetched store.counts.fetched in
-    IsStore-counted s t h.just.only (record { fetched = omega arith; made = omega (arith, h.just.made, store.counts.made); applied = omega arith }) store
 
 -- ---- leaves that stand for arrays
 
@@ -100,15 +58,15 @@ pub fault_function : (s : StoreView) (g : SegmentView) (k : ℕ) (x : Node) → 
 fault_function s g k x fault there = fails_function s fault.fails.0 g.nodes k [] x fault.fails.2 there
 
 -- the first fault, with the place of its node
-pub answer_fault : (old new : StoreView) (g : SegmentView) (k : ℕ) (x : Node) (place : Place) → IsSegment g → IsFirstFault old g k → slice_get g.nodes k ≡ Some x → place ≡ node_place x → HasRoom old (elements_of g) → AreMachineCounts old.counts → ComputedUpTo old new (applications g) (fetches g) → IsFault old new g place
-answer_fault old new g k x place seg fault there is room small cost = record {
+pub answer_fault : (old new : StoreView) (g : SegmentView) (k : ℕ) (x : Node) (place : Place) → IsSegment g → IsFirstFault old g k → slice_get g.nodes k ≡ Some x → place ≡ node_place x → HasRoom old (elements_of g) → OnlyComputed old new (applications g) (fetches g) → IsFault old new g place
+answer_fault old new g k x place seg fault there is room cost = record {
   means = sym (only_meaning old g (Faults place) seg (k, fault, ap (option_map node_place) there ∙ ap (λ (p : Place). Some p) (sym is)));
   room = room;
-  counted = only_computed old new (applications g) (fetches g) small cost;
+  counted = cost;
 }
 
 -- the array of the cells, in a leaf that reads a new owner
-pub answer_made : (old between new : StoreView) (g : SegmentView) (cells : List ℤ) (key : ℕ) (leaf : Leaf) → IsSegment g → only_leaf g.nodes ≡ None → AreMachineCounts old.counts → HasElements old between g cells → IsWholeView key g.shape Num leaf → Makes between new key (new_owner cells Num) → IsForced old new g leaf
+pub answer_made : (old between new : StoreView) (g : SegmentView) (cells : List ℤ) (key : ℕ) (leaf : Leaf) → IsSegment g → only_leaf g.nodes ≡ None → AreCounts old.counts → HasElements old between g cells → IsWholeView key g.shape Num leaf → Makes between new key (new_owner cells Num) → IsForced old new g leaf
 answer_made old between new g cells key leaf seg many small has view makes =
     let a : Array = record { kind = Num; shape = g.shape; cells = cells } in
     let made : IsMade old new g a leaf = record {
@@ -117,7 +75,7 @@ answer_made old between new g cells key leaf seg many small has view makes =
       view = view;
       made = record {
         between = between;
-        counts = computed_all old between (applications g) (fetches g) small has.just;
+        counts = Computed-just old between (applications g) (fetches g) small has.just;
         makes = makes;
       };
     } in

@@ -8,3 +8,5 @@ pub mod FirstNodes
 pub mod Visits
 pub mod FirstFaults
 pub mod ForcedLemmas
+pub mod RowLemmas
+pub mod ReadLemmas

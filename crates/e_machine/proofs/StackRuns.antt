@@ -4,37 +4,16 @@ use Rattle.std.specs.Prelude.{IsSome, ℤ}
 use Rattle.std.proofs.Math.ListN.{drop_of_length-le}
 use Rattle.std.proofs.lemmas.Bool.{cases_lt}
 use Rattle.apl_base.specs.declared.cells.Elem.{Elem}
-use Rattle.array_store.specs.Stores.{StoreView, counted}
-use Rattle.array_store.specs.Counting.{OnlyCounted}
+use Rattle.array_store.specs.Stores.{StoreView, AreCounts}
+use Rattle.array_store.specs.Counting.{OnlyCounted, OnlyComputed, ComputedJust}
+use Rattle.array_store.proofs.CountingLemmas.{ComputedJust-none, ComputedJust-then, OnlyComputed-just, OnlyComputed-more}
 use Rattle.drag_along.specs.declared.leaves.Leaf.{Leaf}
 use Rattle.drag_along.specs.declared.nodes.Node.{Node}
 use Rattle.drag_along.specs.declared.nodes.Node.TheVariants.{Operand, One, Two}
 use Rattle.drag_along.specs.Nodes.{AllLeaves, leaf_kind, functions_in, stored_in, pending_after}
 use Rattle.drag_along.specs.Meaning.{value_at, values_at, fails_on, fails_at}
-use Rattle.e_machine.proofs.CountedLemmas.{OnlyCounted-then, leaf_cell-counted}
-use Rattle.e_machine.specs.Runs.{IsReadable, defined, Rises, ComputedJust, ComputedUpTo, HasValue, FailsFirst, IsRun}
-
--- ---- counts
-
--- nothing was counted
-pub just_nothing : (s : StoreView) → ComputedJust s s 0 0
-just_nothing s = record { only = refl; applied = λ h. omega arith; fetched = λ h. omega arith; made = refl }
-
--- one rise after another
-rises_then : (a b c m n : ℕ) → Rises a b m → Rises b c n → Rises a c (m + n)
-rises_then a b c m n g h = λ small.
-    let e : b ≡ counted a m = g small in
-    let f : c ≡ counted b n = h (omega arith) in
-    omega arith
-
--- one count after another
-pub just_then : (a b c : StoreView) (f g m n : ℕ) → ComputedJust a b f m → ComputedJust b c g n → ComputedJust a c (f + g) (m + n)
-just_then a b c f g m n x y = record {
-  only = OnlyCounted-then a b c x.only y.only;
-  applied = rises_then a.counts.applied b.counts.applied c.counts.applied f g x.applied y.applied;
-  fetched = rises_then a.counts.fetched b.counts.fetched c.counts.fetched m n x.fetched y.fetched;
-  made = y.made ∙ x.made;
-}
+use Rattle.e_machine.proofs.CountedLemmas.{leaf_cell-counted}
+use Rattle.e_machine.specs.Runs.{IsReadable, defined, HasValue, FailsFirst, IsRun}
 
 -- ---- what a store means stays while it counts
 
@@ -59,10 +38,11 @@ pub record RunTo (s now : StoreView) (i : List ℕ) (xs : List Node) (k : ℕ) (
   pub cells : ℕ
   pub applied : functions + functions_in (drop k xs) ≡ functions_in xs
   pub fetched : cells + stored_in (drop k xs) ≡ stored_in xs
+  pub small : AreCounts s.counts
   pub just : ComputedJust s now functions cells
 
-pub run_starts : (s : StoreView) (i : List ℕ) (xs : List Node) → IsSome (pending_after xs 0) → AllLeaves (IsReadable s i) xs → RunTo s s i xs 0 []
-run_starts s i xs operands readable = record {
+pub run_starts : (s : StoreView) (i : List ℕ) (xs : List Node) → AreCounts s.counts → IsSome (pending_after xs 0) → AllLeaves (IsReadable s i) xs → RunTo s s i xs 0 []
+run_starts s i xs small operands readable = record {
   leaves = refl;
   later = λ j. ap (λ (n : ℕ). fails_at s i xs n []) (let e : 0 + j ≡ j = omega arith in e);
   before = λ j h. absurd (omega (arith, h));
@@ -72,7 +52,8 @@ run_starts s i xs operands readable = record {
   cells = 0;
   applied = omega arith;
   fetched = omega arith;
-  just = just_nothing s;
+  small = small;
+  just = ComputedJust-none s small;
 }
 
 -- what the next node asks for
@@ -143,7 +124,8 @@ run_goes s now next i xs k es rest x v r here value count =
       cells = r.cells + stored_in (x ∷ []);
       applied = omega (arith, r.applied, functions_in-cons x more, ap functions_in here);
       fetched = omega (arith, r.fetched, stored_in-cons x more, ap stored_in here);
-      just = just_then s now next r.functions (functions_in (x ∷ [])) r.cells (stored_in (x ∷ [])) r.just count;
+      small = r.small;
+      just = ComputedJust-then s now next r.functions (functions_in (x ∷ [])) r.cells (stored_in (x ∷ [])) r.just count;
     }
 
 -- a node that has none is the first that fails
@@ -155,14 +137,13 @@ run_fails s now i xs k es x r there here fails = record {
 }
 
 -- so far no more was done than over all nodes
-pub run_few : (s now next : StoreView) (i : List ℕ) (xs : List Node) (k : ℕ) (es : List Elem) (x : Node) → RunTo s now i xs k es → drop k xs ≡ x ∷ drop (suc k) xs → ComputedJust now next (functions_in (x ∷ [])) (stored_in (x ∷ [])) → ComputedUpTo s next (functions_in xs) (stored_in xs)
-run_few s now next i xs k es x r here count = record {
-  applied = r.functions + functions_in (x ∷ []);
-  fetched = r.cells + stored_in (x ∷ []);
-  few_applied = omega (arith, r.applied, functions_in-cons x (drop (suc k) xs), ap functions_in here);
-  few_fetched = omega (arith, r.fetched, stored_in-cons x (drop (suc k) xs), ap stored_in here);
-  just = just_then s now next r.functions (functions_in (x ∷ [])) r.cells (stored_in (x ∷ [])) r.just count;
-}
+pub run_few : (s now next : StoreView) (i : List ℕ) (xs : List Node) (k : ℕ) (es : List Elem) (x : Node) → RunTo s now i xs k es → drop k xs ≡ x ∷ drop (suc k) xs → ComputedJust now next (functions_in (x ∷ [])) (stored_in (x ∷ [])) → OnlyComputed s next (functions_in xs) (stored_in xs)
+run_few s now next i xs k es x r here count =
+    OnlyComputed-more s next (r.functions + functions_in (x ∷ [])) (functions_in xs) (r.cells + stored_in (x ∷ [])) (stored_in xs)
+    (omega (arith, r.applied, functions_in-cons x (drop (suc k) xs), ap functions_in here))
+    (omega (arith, r.fetched, stored_in-cons x (drop (suc k) xs), ap stored_in here))
+    (OnlyComputed-just s next (r.functions + functions_in (x ∷ [])) (r.cells + stored_in (x ∷ [])) r.small
+    (ComputedJust-then s now next r.functions (functions_in (x ∷ [])) r.cells (stored_in (x ∷ [])) r.just count))
 
 -- after all nodes
 pub run_ends : (s now : StoreView) (i : List ℕ) (xs : List Node) (k : ℕ) (es : List Elem) → RunTo s now i xs k es → length xs ≤ k → IsRun s now i xs es None

@@ -6,23 +6,21 @@ use Rattle.apl_base.specs.declared.cells.Kind.TheVariants.{Num}
 use Rattle.apl_base.specs.declared.cells.Elem.{Elem}
 use Rattle.apl_base.specs.Number.{IsCell}
 use Rattle.array_store.specs.Stores.{StoreView}
+use Rattle.array_store.specs.Counting.{OnlyComputed, ComputedJust}
+use Rattle.array_store.proofs.CountingLemmas.{OnlyComputed-more}
 use Rattle.drag_along.specs.declared.nodes.Node.{Node}
 use Rattle.drag_along.specs.Nodes.{functions_in, stored_in, pending_after}
 use Rattle.drag_along.specs.Meaning.{values_at}
 use Rattle.drag_along.specs.Views.{only_leaf}
-use Rattle.e_machine.specs.Runs.{defined, ComputedJust, ComputedUpTo, HasValues, FailsFirst, Passes}
+use Rattle.e_machine.specs.Runs.{defined, HasValues, FailsFirst, Passes}
 use Rattle.e_machine.proofs.StackRuns.{length-defined}
 use Rattle.e_machine.proofs.FirstNodes.{EndsInNumber, take_fails, functions_in-take, stored_in-take, values_count, nodes_end_in_number}
 
 -- the cost of the first nodes is at most that of all
-pub visit_costs : (old new : StoreView) (first : ℕ) (xs : List Node) → ComputedUpTo old new (functions_in (take first xs)) (stored_in (take first xs)) → ComputedUpTo old new (functions_in xs) (stored_in xs)
-visit_costs old new first xs cost = record {
-  applied = cost.applied;
-  fetched = cost.fetched;
-  few_applied = omega (arith, cost.few_applied, functions_in-take first xs);
-  few_fetched = omega (arith, cost.few_fetched, stored_in-take first xs);
-  just = cost.just;
-}
+pub visit_costs : (old new : StoreView) (first : ℕ) (xs : List Node) → OnlyComputed old new (functions_in (take first xs)) (stored_in (take first xs)) → OnlyComputed old new (functions_in xs) (stored_in xs)
+visit_costs old new first xs cost =
+    OnlyComputed-more old new (functions_in (take first xs)) (functions_in xs) (stored_in (take first xs)) (stored_in xs)
+    (functions_in-take first xs) (stored_in-take first xs) cost
 
 pub visit_fails : (s : StoreView) (i : List ℕ) (first k : ℕ) (xs : List Node) → first ≤ length xs → FailsFirst s i (take first xs) k → (k < first) × FailsFirst s i xs k
 visit_fails s i first k xs few fault =

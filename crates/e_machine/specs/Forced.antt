@@ -1,9 +1,10 @@
 -- What the calls that compute elements answer and what they leave.
-use Rattle.std.specs.Prelude.{◌≡◌, ℕ, ◌*◌, length, Option, None, Some, Result, Ok, Err}
+use Rattle.std.specs.Prelude.{◌≡◌, ℕ, ◌*◌, ℤ, List, length, map, Option, None, Some, Result, Ok, Err}
 use Rattle.apl_base.specs.declared.faults.Place.{Place}
-use Rattle.apl_base.specs.Array.{Array, size_of}
-use Rattle.array_store.specs.Stores.{StoreView, HasRoom, new_owner, counted}
-use Rattle.array_store.specs.Counting.{OnlyFetched, OnlyComputed, Computed, IsFull, MakesAfter}
+use Rattle.apl_base.specs.Array.{Array, size_of, index_at}
+use Rattle.apl_base.specs.Selection.{upward}
+use Rattle.array_store.specs.Stores.{StoreView, HasRoom, new_owner}
+use Rattle.array_store.specs.Counting.{after_fetches, OnlyFetched, OnlyComputed, Computed, IsFull, MakesAfter}
 use Rattle.array_store.specs.Follows.{none}
 use Rattle.array_store.specs.declared.ids.BeginFault.{BeginFault}
 use Rattle.array_store.specs.declared.ids.BeginFault.TheVariants as begin
@@ -11,7 +12,7 @@ use Rattle.drag_along.specs.declared.leaves.Leaf.{Leaf}
 use Rattle.drag_along.specs.declared.leaves.Leaf.TheVariants.{Stored, Gen}
 use Rattle.drag_along.specs.Nodes.{leaf_shape, stored_in, functions_in, named_by_leaf}
 use Rattle.drag_along.specs.Segments.{SegmentView}
-use Rattle.drag_along.specs.Meaning.{Means, Faults, leaf_array, entry}
+use Rattle.drag_along.specs.Meaning.{Means, Faults, leaf_cell, leaf_array, entry}
 use Rattle.drag_along.specs.Holding.{HeldOnceMore}
 use Rattle.drag_along.specs.Views.{IsWholeView, StandsForArray, only_leaf}
 use Rattle.e_machine.specs.declared.faults.ForceFault.{ForceFault}
@@ -99,7 +100,15 @@ IsCopyFault old new leaf begin.NoMemory =
 
 -- ---- reading
 
+-- the cells of a leaf at so many places of its row-major order, from a first one on
+abbrev pub cells_from : StoreView → Leaf → ℕ → ℕ → List ℤ
+cells_from store leaf first count = map (λ p. leaf_cell store leaf (index_at (leaf_shape leaf) p)) (upward first count)
+
+-- so many cells were fetched for a stored leaf, and none for another
+abbrev pub AreRead : StoreView → StoreView → Leaf → ℕ → Type 0
+AreRead old new (Stored owner desc kind) count = new ≡ after_fetches old count
+AreRead old new (Gen desc kind) count = new ≡ old
+
 -- one cell was fetched for a stored leaf, and none for another
 abbrev pub IsRead : StoreView → StoreView → Leaf → Type 0
-IsRead old new (Stored owner desc kind) = new ≡ record old { counts = record old.counts { fetched = counted old.counts.fetched 1 } }
-IsRead old new (Gen desc kind) = new ≡ old
+IsRead old new leaf = AreRead old new leaf 1

@@ -1,3 +1,4 @@
 pub mod Forced
 pub mod Refusals
 pub mod Runs
+pub mod Rows

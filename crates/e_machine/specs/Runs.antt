@@ -1,11 +1,11 @@
 -- What is answered on the way to a segment's elements: for a node, for all nodes at one index, and over all indices.
-use Rattle.std.specs.Prelude.{◌≡◌, ℕ, ◌^◌, ◌<◌, ◌≤◌, ℤ, false, IsTrue, All, List, [], ◌∷◌, ◌++◌, length, map, Option, None, Some}
+use Rattle.std.specs.Prelude.{◌≡◌, ℕ, ◌<◌, ℤ, false, IsTrue, All, List, [], ◌∷◌, ◌++◌, length, map, Option, None, Some}
 use Rattle.apl_base.specs.declared.cells.Kind.TheVariants.{Num}
 use Rattle.apl_base.specs.declared.cells.Elem.{Elem}
 use Rattle.apl_base.specs.Array.{IsIndex}
 use Rattle.apl_base.specs.Number.{IsCell}
-use Rattle.array_store.specs.Stores.{StoreView, counted}
-use Rattle.array_store.specs.Counting.{OnlyCounted}
+use Rattle.array_store.specs.Stores.{StoreView}
+use Rattle.array_store.specs.Counting.{ComputedJust}
 use Rattle.drag_along.specs.declared.leaves.Leaf.{Leaf}
 use Rattle.drag_along.specs.declared.nodes.Node.{Node}
 use Rattle.drag_along.specs.Nodes.{leaf_shape, functions_in, stored_in}
@@ -22,27 +22,6 @@ pub record IsReadable (store : StoreView) (index : List ℕ) (leaf : Leaf) : Typ
 -- values pending that are all defined, the newest first
 abbrev pub defined : List Elem → List (Option Elem)
 defined values = map (λ v. Some v) values
-
--- ---- what was counted
-
--- a count that a machine holds rose by just so much
-abbrev pub Rises : ℕ → ℕ → ℕ → Type 0
-Rises old new much = old < 2 ^ 64 → new ≡ counted old much
-
--- functions were applied and cells fetched, just so many of each, and nothing else was done
-pub record ComputedJust (old new : StoreView) (functions cells : ℕ) : Type 0 where
-  pub only : OnlyCounted old new
-  pub applied : Rises old.counts.applied new.counts.applied functions
-  pub fetched : Rises old.counts.fetched new.counts.fetched cells
-  pub made : new.counts.made ≡ old.counts.made
-
--- the same, at most so many of each
-pub record ComputedUpTo (old new : StoreView) (functions cells : ℕ) : Type 0 where
-  pub applied : ℕ
-  pub fetched : ℕ
-  pub few_applied : applied ≤ functions
-  pub few_fetched : fetched ≤ cells
-  pub just : ComputedJust old new applied fetched
 
 -- ---- one node
 

@@ -9,11 +9,10 @@ ghost use Rattle.drag_along.specs.Lawful.{IsLawfulLeaf};
 ghost use Rattle.drag_along.specs.Meaning.{leaf_array};
 ghost use Rattle.e_machine.specs.Forced.{IsCopy, IsCopyFault, named_by_answer};
 
-use crate::reads::read_at;
+use crate::reads::read_places;
 use apl_base::Cell;
 use array_store::{BeginFault, Store};
 use drag_along::{Leaf, whole_view};
-use iter_stack::Odometer;
 
 /// A copy of a leaf's elements in a new owner, also where the leaf reads a whole owner. `WsFull` comes exactly where
 /// there is no room for them, before any is read.
@@ -33,28 +32,16 @@ pub fn own(leaf: &Leaf, store: &mut Store) -> Result<Leaf, BeginFault>
 }
 
 // Puts the leaf's elements, in row-major order, into an empty vector that has room for them.
-pub(crate) fn read_all(leaf: &Leaf, store: &mut Store, cells: &mut Vec<Cell>)
+fn read_all(leaf: &Leaf, store: &mut Store, cells: &mut Vec<Cell>)
     requires lawful { IsLawfulLeaf store.old leaf.now }
-    requires counts { store.old.counts.fetched < 2 ^ 64 }
     requires empty { cells.old.items ≡ [] }
     requires room { size_of (leaf_shape leaf.now) ≤ vec_capacity cells.old }
     ensures cells { cells.new.items ≡ (leaf_array store.old (leaf_shape leaf.now) leaf.now).cells }
     ensures counted { OnlyFetched store.old store.new (size_of (leaf_shape leaf.now)) }
     ensures lawful { All (IsCell (leaf_kind leaf.now)) cells.new.items }
+    ensures store { IsStore store.new }
 {
-    for index in Odometer::new(&leaf.desc().shape, false) {
-        push_reserved(cells, read_at(leaf, index.as_slice(), store).cell);
-    }
-}
-
-// Puts one more cell into a vector that has room for it.
-fn push_reserved(cells: &mut Vec<Cell>, cell: Cell)
-    requires { vec_len cells.old < vec_capacity cells.old }
-    ensures items { cells.new.items ≡ cells.old.items ++ cell ∷ [] }
-    ensures capacity { vec_capacity cells.old ≤ vec_capacity cells.new }
-{
-    match cells.push(cell) {
-        Ok(()) => {}
-        Err(_) => unreachable!(),
-    }
+    // It tells the proof that the counts are numbers of a machine.
+    let _counts = store.counts();
+    read_places(leaf, 0, leaf.desc().size(), store, cells);
 }

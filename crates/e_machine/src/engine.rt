@@ -1,11 +1,13 @@
 ghost use Rattle.std.specs.Prelude.{◌≡◌, ◌<◌, ◌≤◌, [], ◌∷◌, length, IsSome, IsTrue, IfOk, MatchOption, None};
 ghost use Rattle.apl_base.specs.Array.{IsIndex};
+ghost use Rattle.array_store.specs.Stores.{IsStore};
+ghost use Rattle.array_store.specs.Counting.{OnlyComputed, ComputedJust};
 ghost use Rattle.drag_along.specs.Nodes.{AllLeaves, functions_in, stored_in, pending_after};
 ghost use Rattle.drag_along.specs.Meaning.{fails_on, IsFirstFault};
 ghost use Rattle.drag_along.specs.Lawful.{IsLawfulLeaf};
 ghost use Rattle.drag_along.specs.Views.{only_leaf};
 ghost use Rattle.e_machine.specs.Forced.{applications, fetches};
-ghost use Rattle.e_machine.specs.Runs.{IsReadable, defined, ComputedJust, ComputedUpTo, HasValue, IsRun, IsVisit, HasElements};
+ghost use Rattle.e_machine.specs.Runs.{IsReadable, defined, HasValue, IsRun, IsVisit, HasElements};
 
 use crate::elements::Elements;
 use crate::reads::read_at;
@@ -22,7 +24,10 @@ fn value_of(node: &Node, index: &[u64], store: &mut Store, pending: &mut Element
     ensures value { MatchOption result (IsTrue (fails_on node.now (defined pending.old)))
         (HasValue store.old index.now node.now pending.old pending.new) }
     ensures counted { ComputedJust store.old store.new (functions_in (node.now ∷ [])) (stored_in (node.now ∷ [])) }
+    ensures store { IsStore store.new }
 {
+    // It tells the proof that the counts are numbers of a machine.
+    let _counts = store.counts();
     match node {
         Node::Operand { leaf } => Some(read_at(leaf, index, store)),
         Node::One { f, .. } => {
@@ -50,8 +55,10 @@ fn run_at(
     requires operands { IsSome (pending_after nodes.now 0) }
     requires readable { AllLeaves (IsReadable store.old index.now) nodes.now }
     ensures run { IfOk result (IsRun store.old store.new index.now nodes.now pending.new) }
-    ensures counted { ComputedUpTo store.old store.new (functions_in nodes.now) (stored_in nodes.now) }
+    ensures counted { OnlyComputed store.old store.new (functions_in nodes.now) (stored_in nodes.now) }
+    ensures store { IsStore store.new }
 {
+    let _counts = store.counts();
     pending.clear();
     for (number, node) in nodes.iter().enumerate() {
         let Some(value) = value_of(node, index, store, pending) else {
@@ -78,7 +85,8 @@ fn visit(
     requires many { only_leaf s.now.nodes ≡ None }
     ensures visit { IfOk result
         (IsVisit store.old store.new index.now s.now.nodes first cells.old.items cells.new.items) }
-    ensures counted { ComputedUpTo store.old store.new (functions_in s.now.nodes) (stored_in s.now.nodes) }
+    ensures counted { OnlyComputed store.old store.new (functions_in s.now.nodes) (stored_in s.now.nodes) }
+    ensures store { IsStore store.new }
 {
     if let Some(failed) = run_at(&s.nodes[..first], index, store, pending)? {
         return Ok(Some(failed));
@@ -98,8 +106,10 @@ pub fn compute(s: &Segment, store: &mut Store, cells: &mut Vec<Cell>) -> Result<
     ensures fault { IfOk result (λ first. first < length s.now.nodes → IsFirstFault store.old s.now first) }
     ensures cells { IfOk result (λ first. length s.now.nodes ≤ first
         → HasElements store.old store.new s.now cells.new.items) }
-    ensures counted { ComputedUpTo store.old store.new (applications s.now) (fetches s.now) }
+    ensures counted { OnlyComputed store.old store.new (applications s.now) (fetches s.now) }
+    ensures store { IsStore store.new }
 {
+    let _counts = store.counts();
     let mut pending = Elements::new(s.shape.allocator());
     let mut first = s.nodes.len();
     for index in Odometer::new(&s.shape, false) {

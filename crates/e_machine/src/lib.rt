@@ -13,7 +13,4 @@ pub use copies::own;
 pub use faults::ForceFault;
 pub use forcing::force;
 pub use laws::{force_beside, own_beside};
-pub use reads::read_at;
-
-#[cfg(test)]
-mod tests;
+pub use reads::{read_at, read_places};

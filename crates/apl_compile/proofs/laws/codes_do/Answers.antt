@@ -1,4 +1,3 @@
-use Rattle.apl_compile.proofs.CodeLemmas.{code_does}
 use Rattle.apl_compile.proofs.ProgramLemmas.{code_does_law, statement_code_does}
 use Rattle.apl_compile.proofs.laws.codes_do.Goals as goal
 

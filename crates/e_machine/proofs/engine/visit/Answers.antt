@@ -5,10 +5,11 @@ use mir.Syntax.{w128}
 use Rattle.std.proofs.lemmas.Int.{to_z-of_z}
 use Rattle.apl_base.specs.declared.cells.Elem.{Elem}
 use Rattle.array_store.specs.Stores.{StoreView}
+use Rattle.array_store.specs.Counting.{OnlyComputed}
 use Rattle.drag_along.specs.declared.nodes.Node.{Node}
 use Rattle.drag_along.specs.Nodes.{AllLeaves, functions_in, stored_in, pending_after}
 use Rattle.drag_along.specs.Segments.{SegmentView, IsSegment}
-use Rattle.e_machine.specs.Runs.{IsReadable, ComputedUpTo, FailsFirst, IsRun}
+use Rattle.e_machine.specs.Runs.{IsReadable, FailsFirst, IsRun}
 use Rattle.e_machine.proofs.FirstNodes.{take_operands, take_readable, all_readable}
 use Rattle.e_machine.proofs.Visits.{visit_costs, visit_fails, visit_passes, visit_leaves_one, visit_gains}
 use Rattle.e_machine.proofs.engine.visit.Goals as goal
@@ -17,10 +18,10 @@ use Rattle.e_machine.proofs.engine.visit.Goals as goal
 nodes : (ns : List Node) (inside g : SegmentView) → ns ≡ inside.nodes → inside ≡ g → ns ≡ g.nodes
 nodes ns inside g e view_is = e ∙ ap (λ (x : SegmentView). x.nodes) view_is
 
-costs : (old new : StoreView) (first : ℕ) (ns : List Node) (inside g : SegmentView) → ns ≡ inside.nodes → inside ≡ g → ComputedUpTo old new (functions_in (take first ns)) (stored_in (take first ns)) → ComputedUpTo old new (functions_in g.nodes) (stored_in g.nodes)
+costs : (old new : StoreView) (first : ℕ) (ns : List Node) (inside g : SegmentView) → ns ≡ inside.nodes → inside ≡ g → OnlyComputed old new (functions_in (take first ns)) (stored_in (take first ns)) → OnlyComputed old new (functions_in g.nodes) (stored_in g.nodes)
 costs old new first ns inside g e view_is h =
     visit_costs old new first g.nodes
-    (subst (λ (xs : List Node). ComputedUpTo old new (functions_in (take first xs)) (stored_in (take first xs))) (nodes ns inside g e view_is) h)
+    (subst (λ (xs : List Node). OnlyComputed old new (functions_in (take first xs)) (stored_in (take first xs))) (nodes ns inside g e view_is) h)
 
 pub run_at-requires-clause-operands : goal.run_at-requires-clause-operands
 run_at-requires-clause-operands c =

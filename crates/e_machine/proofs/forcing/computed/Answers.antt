@@ -1,4 +1,4 @@
-use Rattle.std.proofs.Common.{◌≡◌, ◌<◌, ◌≤◌, ◌∙◌, ℕ, length, get_or, Some, sym, ap, subst, arith, rules}
+use Rattle.std.proofs.Common.{◌≡◌, ◌<◌, ◌≤◌, ◌∙◌, ℕ, length, get_or, Some, sym, ap, subst, arith}
 use Rattle.std.specs.Prelude.{slice_get}
 use Rattle.std.proofs.lemmas.Option.{slice_get_read}
 use Rattle.drag_along.specs.declared.leaves.Leaf.{Leaf}
@@ -8,7 +8,7 @@ use Rattle.drag_along.specs.Views.{IsWholeView}
 use Rattle.apl_base.specs.declared.cells.Kind.TheVariants.{Num}
 use Rattle.apl_base.specs.Array.{size_of}
 use Rattle.e_machine.specs.Runs.{HasElements}
-use Rattle.e_machine.proofs.ForcedLemmas.{AreMachineCounts, store_computed, fault_function, answer_fault, answer_made}
+use Rattle.e_machine.proofs.ForcedLemmas.{fault_function, answer_fault, answer_made}
 use Rattle.e_machine.proofs.forcing.computed.Goals as goal
 
 -- the node that was read is the segment's node of that number
@@ -32,8 +32,7 @@ place_of-place-requires c =
 
 pub returns-then-first-len-clause-refused : goal.returns-then-first-len-clause-refused
 returns-then-first-len-clause-refused c =
-    let many = c.len.ensures ∙ c.s.inside.nodes.ok.0 in
-    let small : AreMachineCounts c.counts-counts.result = record { applied = search rules; fetched = search rules } in (
+    let many = c.len.ensures ∙ c.s.inside.nodes.ok.0 in (
       c.requires.many,
       answer_fault c.args.store.now c.compute.new.store c.args.s.now c.in_ok-first.first c.index.result.now c.place_of-place.result
           (subst IsSegment c.s.view_is c.s.invariant)
@@ -41,14 +40,8 @@ returns-then-first-len-clause-refused c =
           (node_there _ _ _ _ c.index.result.now c.s.view_is many c.if-first-len.true c.index.ensures)
           c.place_of-place.ensures
           (omega (arith, c.in_ok-cells.ensures.within, c.size.ensures.value, ap (λ (y : SegmentView). size_of y.shape) c.s.view_is))
-          (subst AreMachineCounts c.counts-counts.ensures.value small) c.compute.ensures.counted,
+          c.compute.ensures.counted,
     )
-
-pub returns-in_err-first-clause-store : goal.returns-in_err-first-clause-store
-returns-in_err-first-clause-store c = store_computed _ _ _ _ c.compute.ensures.counted c.counts-counts.ensures.store
-
-pub returns-then-first-len-clause-store : goal.returns-then-first-len-clause-store
-returns-then-first-len-clause-store c = store_computed _ _ _ _ c.compute.ensures.counted c.counts-counts.ensures.store
 
 -- the leaf has the shape of the segment
 whole : (key : ℕ) (inside g : SegmentView) (leaf : Leaf) → inside ≡ g → IsWholeView key inside.shape Num leaf → IsWholeView key g.shape Num leaf
@@ -57,7 +50,6 @@ whole key inside g leaf view_is h = subst (λ (y : SegmentView). IsWholeView key
 pub returns-clause-forced : goal.returns-clause-forced
 returns-clause-forced c =
     let many = c.len.ensures ∙ c.s.inside.nodes.ok.0 in
-    let small : AreMachineCounts c.counts-counts.result = record { applied = search rules; fetched = search rules } in
     let has : HasElements c.args.store.now c.compute.new.store c.args.s.now c.compute.new.cells.items =
     c.in_ok-first.ensures.cells (past _ _ _ _ c.s.view_is many c.if-first-len.false) in
-    answer_made _ _ _ c.args.s.now _ _ _ (subst IsSegment c.s.view_is c.s.invariant) c.requires.many (subst AreMachineCounts c.counts-counts.ensures.value small) has (whole _ _ _ _ c.s.view_is c.whole_view.ensures) c.in_ok-owner.ensures.made
+    answer_made _ _ _ c.args.s.now _ _ _ (subst IsSegment c.s.view_is c.s.invariant) c.requires.many c.counts-counts.ensures.store.counts has (whole _ _ _ _ c.s.view_is c.whole_view.ensures) c.in_ok-owner.ensures.made

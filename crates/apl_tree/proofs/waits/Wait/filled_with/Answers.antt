@@ -1,5 +1,5 @@
 use Rattle.std.proofs.Common.{Some, ap, sym, ◌∙◌}
-use Rattle.apl_model.proofs.Bridge.{tree-call, tree-one, tree-two, tree-reduce, tree-outer, tree-inner, tree-assign, tree-index_assign, tree-output}
+use Rattle.apl_model.proofs.Bridge.{tree-call, tree-one, tree-two, tree-reduce, tree-assign, tree-output}
 use Rattle.apl_model.proofs.Machine as machine
 use Rattle.apl_model.specs.Mirror.{tree_of}
 use Rattle.apl_tree.specs.Mirror.{wait_of}
@@ -27,12 +27,12 @@ returns-in-Reduce c =
 
 pub returns-in-Outer : goal.returns-in-Outer
 returns-in-Outer c =
-    tree-outer c.in-Outer.f c.in-Outer.left c.args.right c.in-Outer.place
+    c.outer_product.ensures
     ∙ sym (ap (λ w. machine.filled (wait_of w) (tree_of c.args.right)) c.in-Outer.is)
 
 pub returns-in-Inner : goal.returns-in-Inner
 returns-in-Inner c =
-    tree-inner c.in-Inner.f c.in-Inner.g c.in-Inner.left c.args.right c.in-Inner.place
+    c.inner_product.ensures
     ∙ sym (ap (λ w. machine.filled (wait_of w) (tree_of c.args.right)) c.in-Inner.is)
 
 pub returns-in-Assign : goal.returns-in-Assign
@@ -42,7 +42,7 @@ returns-in-Assign c =
 
 pub returns-in-IndexAssign : goal.returns-in-IndexAssign
 returns-in-IndexAssign c =
-    tree-index_assign c.in-IndexAssign.name c.in-IndexAssign.positions c.args.right c.in-IndexAssign.place
+    c.indexed_assignment.ensures
     ∙ sym (ap (λ w. machine.filled (wait_of w) (tree_of c.args.right)) c.in-IndexAssign.is)
 
 pub returns-in-Output : goal.returns-in-Output

@@ -1,4 +1,0 @@
-use Rattle.e_machine.proofs.tests.elements_read.Goals as goal
-
-pub read_at-requires-2-clause-lawful : goal.read_at-requires-2-clause-lawful
-read_at-requires-2-clause-lawful g c = c.counting.ensures.lawful c.read_at.new.store
