@@ -1,5 +1,5 @@
 -- A script of bytes is accepted exactly where it has no refusal.
-use Rattle.std.proofs.Common.{◌≡◌, ℕ, zero, suc, ◌+◌, ◌≤◌, ◌^◌, ◌==◌, true, false, List, [], ◌∷◌, ◌++◌, length, Option, None, Some, ◌⊎◌, inl, inr, ◌↔◌, refl, sym, ap, subst, ◌∙◌, arith, append_assoc, append-nil}
+use Rattle.std.proofs.Common.{◌≡◌, ℕ, zero, suc, ◌+◌, ◌≤◌, ◌^◌, ◌==◌, true, false, List, [], ◌∷◌, ◌++◌, length, Option, None, Some, ◌⊎◌, inl, inr, refl, sym, ap, subst, ◌∙◌, arith, append_assoc, append-nil}
 use Rattle.std.specs.Prelude.{codes}
 use Rattle.std.specs.List.{IsAmong, AllZip}
 use Rattle.std.specs.Str.Lossy.{utf8_valid_len}
@@ -14,6 +14,7 @@ use Rattle.std.specs.Option.{option_and_then}
 use Rattle.std.proofs.lemmas.Bool.{eqb-true}
 use Rattle.apl_model.proofs.Unique.{one_header, none_clash, run_none}
 use Rattle.apl_model.specs.Grammar.{IsStatement}
+use Rattle.apl_model.specs.Laws.{AcceptedExactly}
 use Rattle.apl_model.specs.Lines.{numbered, texts_of, lines_of}
 use Rattle.apl_model.specs.Refusal.{IsReadingRefusal, ill_formed, long_line, at_fault, LineKind, outside, in_body, first_line, by_itself, IsLawful, IsBeginning, past_last, StopsAt, at_token, past_the_last, IsLineOf, IsHeaderRefusal, no_header, lone, nested, IsOpenDefinition, never_closed, AreClasses, IsGrammarRefusal, outside_definitions, in_a_body, IsLineRefusal, header, double_name, open_definition, name_class, deep, grammar, IsRefusal, too_long, of_reading, of_lines, IsAccepted}
 use Rattle.apl_model.specs.Script.{is_glyph_token, opens, closes, is_empty, Part, alone, defined, Inside, parts, inside, headings, heading_of, IsHeadOf, IsBodyLine, IsItem}
@@ -439,5 +440,5 @@ module _ (bytes : List ℕ) (none : (r : Refusal) → IsRefusal bytes r → ⊥)
         },
       )
 
-pub accepted_exactly : (bytes : List ℕ) → ((s : Script) × IsAccepted bytes s) ↔ ((r : Refusal) → ¬ (IsRefusal bytes r))
+pub accepted_exactly : AcceptedExactly
 accepted_exactly bytes = (λ x r i. no_refusal bytes x.0 x.1 r i, λ f. accepted bytes f)

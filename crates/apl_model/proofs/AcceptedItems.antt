@@ -4,7 +4,7 @@ use Rattle.std.specs.Prelude.{slice_get, codes, length, ◌&&◌}
 use Rattle.std.specs.List.{IsAmong, AllByRecursion, AllZip, IsDistinct}
 use Rattle.std.specs.Option.{option_to_list}
 use lib.Pointwise.{bytes_decides}
-use Rattle.apl_model.proofs.Accepted.{among_here, among_there, among_cases, among_none, among_first}
+use Rattle.apl_model.proofs.Accepted.{among_here, among_there, among_first}
 use Rattle.apl_model.proofs.Decide.{false_true}
 use Rattle.apl_model.proofs.Rows.{before_after}
 use Rattle.apl_model.specs.declared.scripts.Command.{Command}

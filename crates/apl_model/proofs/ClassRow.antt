@@ -13,7 +13,7 @@ use Rattle.apl_model.proofs.Unique.{one_header}
 use Rattle.apl_model.specs.Examples as example
 use Rattle.apl_model.specs.Refusal.{refusal, LineKind, outside, in_body, first_line, StopsAt, at_token, past_the_last, IsLineOf, HasStatements, no_header, lone, nested, never_closed, Heads, IsDefined, Occurrence, declared_in, erased_in, second_heading, second_occurrence, assigned, erased, declared, too_deep, opened, outside_definitions, in_a_body, IsLineRefusal, header, double_name, open_definition, name_class, deep, grammar, order, IsNotAfter, IsFirst}
 use Rattle.apl_model.specs.declared.tokens.Heading.{Heading}
-use Rattle.apl_model.specs.Script.{closes, is_glyph_token, Part, alone, defined, parts, IsHeadOf}
+use Rattle.apl_model.specs.Script.{closes, Part, alone, defined, parts, IsHeadOf}
 use Rattle.apl_model.specs.Tokens.{tokens}
 use Rattle.apl_model.specs.declared.scripts.Header.{Header}
 use Rattle.apl_model.specs.declared.tokens.Line.{Line}

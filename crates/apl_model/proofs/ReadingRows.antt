@@ -15,7 +15,7 @@ use Rattle.apl_model.specs.Examples as example
 use Rattle.apl_model.specs.Examples.{blanks}
 use Rattle.apl_model.specs.Lines.{lines_of, cut, onto_first, without_mark, without_return, numbered}
 use Rattle.apl_model.specs.Refusal.{refusal, IsReadingRefusal, ill_formed, long_line, at_fault, IsRefusal, too_long, rank, phase, order, IsNotAfter, IsFirst}
-use Rattle.apl_model.specs.Tokens.{Piece, fault, pieces, pieces_after, tokens}
+use Rattle.apl_model.specs.Tokens.{Piece, fault, pieces, pieces_after}
 use Rattle.apl_model.specs.declared.tokens.Line.{Line}
 
 -- a text whose first refusal is one of reading

@@ -1,8 +1,8 @@
 -- The tokens of a line stand in order.
 use Rattle.std.proofs.Common.{◌≡◌, ℕ, zero, suc, ◌+◌, ◌<◌, ◌≤◌, ◌==◌, true, false, List, [], ◌∷◌, ℤ, subst, arith}
 use Rattle.apl_model.specs.Characters.{code, is_blank}
-use Rattle.apl_model.specs.Laws.{StandInOrder}
-use Rattle.apl_model.specs.Tokens.{Found, number, text, name, glyph, fault, beginning, Piece, pieces_after, number_before, tokens_of_pieces, IsRead}
+use Rattle.apl_model.specs.Laws.{StandInOrder, TokensInOrder}
+use Rattle.apl_model.specs.Tokens.{Found, number, text, name, glyph, fault, beginning, Piece, pieces_after, number_before, tokens_of_pieces}
 use Rattle.apl_model.specs.declared.tokens.Token.{Token}
 use Rattle.apl_model.specs.declared.tokens.Word.{Word}
 use Rattle.apl_model.specs.declared.tokens.Word.TheVariants as word
@@ -70,5 +70,5 @@ pub tokens_in_order : (j : ℕ) (ps : List Piece) → InOrder j ps → StandInOr
 tokens_in_order j [] i = tt
 tokens_in_order j (p ∷ ps) i = piece_in_order j p.from p.past ps p.found i.0 i.1 (tokens_in_order p.past ps i.2)
 
-pub line_in_order : (line : List ℕ) (ts : List Token) → IsRead line ts → StandInOrder 1 ts
+pub line_in_order : TokensInOrder
 line_in_order line ts r = subst (λ v. StandInOrder 1 v) r.same (tokens_in_order 1 (pieces_after 0 1 line) (pieces_in_order 0 1 line))

@@ -6,8 +6,8 @@ use Rattle.apl_model.proofs.Accepted.{among_cases, among_there, among_none}
 use Rattle.apl_model.proofs.Beginnings.{piece_of, next, beginning_keeps}
 use Rattle.apl_model.proofs.TokenOrder.{InOrder, pieces_in_order, tokens_in_order}
 use Rattle.apl_model.specs.Characters.{code, is_blank}
-use Rattle.apl_model.specs.Laws.{StandInOrder, slice_of}
-use Rattle.apl_model.specs.Tokens.{Found, number, text, name, glyph, fault, Beginning, beginning, Piece, pieces_after, number_before, tokens_of_pieces, IsSound, AreSound, IsRead}
+use Rattle.apl_model.specs.Laws.{StandInOrder, TokensAreSlices}
+use Rattle.apl_model.specs.Tokens.{Found, number, text, name, glyph, fault, Beginning, beginning, Piece, pieces_after, number_before, tokens_of_pieces, IsSound, AreSound}
 use Rattle.apl_model.specs.declared.tokens.Token.{Token}
 use Rattle.apl_model.specs.declared.tokens.Word.{Word}
 use Rattle.apl_model.specs.declared.tokens.Word.TheVariants as word
@@ -218,6 +218,5 @@ slices (suc n) k [] t s m = absurd (among_none t m)
 slices (suc n) k (c ∷ cs) t s m = one_more t k c cs (slices n (k + 1) cs t s m)
 slices zero k (c ∷ cs) t s m = char_slice (is_blank c) (c == code "⍝") k c cs t refl refl s m (λ n u i. slices n (k + 1) cs t u i)
 
-pub line_slices : (line : List ℕ) (ts : List Token) (t : Token) → IsRead line ts → IsAmong ts t →
-    let ps = pieces_after 0 t.from (slice_of line t) in AreSound ps × (tokens_of_pieces ps ≡ t ∷ [])
+pub line_slices : TokensAreSlices
 line_slices line ts t r m = let x = slices 0 1 line t r.sound (subst (λ v. IsAmong v t) (sym r.same) m) in (x.1, x.2)

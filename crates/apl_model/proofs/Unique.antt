@@ -8,10 +8,11 @@ use Rattle.apl_model.proofs.Complete.{read_complete}
 use Rattle.apl_model.proofs.Machine.{other, sort, Stack, Status, first, must, may, operand, glyph_first, glyph_after, axis_or_none, axis_opened, axis_given, after_jot, after_jot_dot, after_dot, after_quad, State, state, taken, step, run, start, finished, read}
 use Rattle.apl_model.specs.Characters.{code}
 use Rattle.apl_model.specs.Environment.{is_same_name}
-use Rattle.apl_model.specs.Grammar.{IsStatement, IsExpression, IsHeader}
-use Rattle.apl_model.specs.Spelling.{Mark, at, some, glyph, spelling, statement_spelling, body_spelling, command_spelling, header_spelling, name_marks, local_marks, Spell}
-use Rattle.apl_model.specs.Script.{Part, alone, defined, parts, headings, heading_of, IsBodyLine, IsStatementLine, IsCommandLine, IsDefinition, IsItem, IsScript}
-use Rattle.apl_model.specs.Tree.{Tree, Statement, expression, BodyLine, Definition, Item, statement_item, command_item, definition_item, Script}
+use Rattle.apl_model.specs.Grammar.{IsStatement, IsHeader}
+use Rattle.apl_model.specs.Laws.{OneExpression, OneStatement, OneBodyLine, OneCommand, OneHeader, OneScript}
+use Rattle.apl_model.specs.Spelling.{Mark, at, some, glyph, statement_spelling, command_spelling, header_spelling, name_marks, local_marks, Spell}
+use Rattle.apl_model.specs.Script.{Part, alone, defined, parts, headings, heading_of, IsBodyLine, IsStatementLine, IsCommandLine, IsDefinition, IsItem}
+use Rattle.apl_model.specs.Tree.{Statement, expression, BodyLine, Definition, Item, statement_item, command_item, definition_item}
 use Rattle.apl_model.specs.declared.scripts.Command.{Command}
 use Rattle.apl_model.specs.declared.scripts.Command.TheVariants as command
 use Rattle.apl_model.specs.declared.scripts.Header.{Header}
@@ -21,12 +22,10 @@ use Rattle.apl_model.specs.declared.tokens.Token.{Token}
 use Rattle.apl_model.specs.declared.tokens.Word.{Word}
 use Rattle.apl_model.specs.declared.tokens.Word.TheVariants as word
 
-pub one_statement : (hs : List Heading) (n : ℕ) (ts : List Token) (s r : Statement) → IsStatement hs s → IsStatement hs r →
-    Spell n (statement_spelling s) ts → Spell n (statement_spelling r) ts → s ≡ r
+pub one_statement : OneStatement
 one_statement hs n ts s r h i a b = let e = read_complete hs n s h ts a in let f = read_complete hs n r i ts b in cc
 
-pub one_expression : (hs : List Heading) (n : ℕ) (ts : List Token) (s r : Tree) → IsExpression hs s → IsExpression hs r →
-    Spell n (spelling s) ts → Spell n (spelling r) ts → s ≡ r
+pub one_expression : OneExpression
 one_expression hs n ts s r h i a b = let e = one_statement hs n ts (expression s) (expression r) h i a b in cc
 
 -- a token that is none of the grammar of statements stops the reader
@@ -67,8 +66,7 @@ no_label hs n t u ts s h a e =
     clash : {s : Statement} → Some s ≡ None → ⊥
     clash e = cc
 
-pub one_body_line : (hs : List Heading) (n : ℕ) (ts : List Token) (l m : Option (List ℕ)) (s r : Statement) → IsStatement hs s → IsStatement hs r →
-    Spell n (body_spelling l s) ts → Spell n (body_spelling m r) ts → (l ≡ m) × (s ≡ r)
+pub one_body_line : OneBodyLine
 one_body_line hs n ts None None s r h i a b = (refl, one_statement hs n ts s r h i a b)
 one_body_line hs n [] None (Some m) s r h i a b = absurd b
 one_body_line hs n (t ∷ []) None (Some m) s r h i a b = absurd b.1
@@ -130,7 +128,7 @@ command_complete command.Fns = refl
 command_complete (command.Erase ns) = ap (λ l. Some (command.Erase l)) (names_of-names ns)
 command_complete (command.Origin o) = refl
 
-pub one_command : (n : ℕ) (ts : List Token) (c d : Command) → Spell n (command_spelling c) ts → Spell n (command_spelling d) ts → c ≡ d
+pub one_command : OneCommand
 one_command n ts c d a b =
     let e = command_complete c in let f = command_complete d in
     let g = same_words n (command_spelling c) ts a in let k = same_words n (command_spelling d) ts b in cc
@@ -163,7 +161,7 @@ header_complete f (Some z) None (Some y) (l ∷ ls) h = ap (λ v. Some (record {
 header_complete f (Some z) (Some x) (Some y) ls h = ap (λ v. Some (record { f = f; result = Some z; left = Some x; right = Some y; locals = v })) (names_of-locals ls)
 header_complete f z (Some x) None ls h = absurd (no_right (h.both refl))
 
-pub one_header : (n : ℕ) (ts : List Token) (h k : Header) → IsHeader h → IsHeader k → Spell n (header_spelling h) ts → Spell n (header_spelling k) ts → h ≡ k
+pub one_header : OneHeader
 one_header n ts h k i j a b =
     let e = header_complete h.f h.result h.left h.right h.locals i in let f = header_complete k.f k.result k.left k.right k.locals j in
     let g = same_words n (header_spelling h) ts a in let l = same_words n (header_spelling k) ts b in cc
@@ -282,7 +280,7 @@ same_headings hs ks (p ∷ ps) (i ∷ is) (j ∷ js) x y =
     headings-cons i is ∙ (λ k. one_heading hs ks p i j x.0 y.0 k ++ same_headings hs ks ps is js x.1 y.1 k) ∙ sym (headings-cons j js)
 
 -- lines have at most one script
-pub one_script : (ls : List Line) (s r : Script) → IsScript ls s → IsScript ls r → s ≡ r
+pub one_script : OneScript
 one_script ls s r x y =
     let e = same_headings (headings s.items) (headings r.items) (parts ls) s.items r.items x.items y.items in
     let z : AllZip (IsItem (headings s.items)) (parts ls) r.items = subst (λ h. AllZip (IsItem h) (parts ls) r.items) (sym e) y.items in

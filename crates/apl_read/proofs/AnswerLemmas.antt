@@ -1,8 +1,8 @@
 -- Refusals, from a line to the script.
-use Rattle.std.proofs.Common.{◌≡◌, ◌∙◌, ap, subst, Option, Some, None}
+use Rattle.std.proofs.Common.{◌≡◌, ◌∙◌, ap, subst, Option}
 use Rattle.std.specs.Option.{option_or}
 use Rattle.apl_base.specs.declared.faults.Refusal.{Refusal}
-use Rattle.apl_model.specs.Refusal.{IsFirst, IsFirstIfAny}
+use Rattle.apl_model.specs.Refusal.{IsFirstIfAny}
 use Rattle.apl_model.specs.ReadFaults.{IsRefusedAs, IsRefusedFirst}
 use Rattle.apl_model.specs.declared.faults.ReadFault.{ReadFault}
 use Rattle.apl_model.specs.declared.faults.ReadFault.TheVariants.{Refused, NoMemory}

@@ -1,10 +1,9 @@
 -- The value of digits, as it is computed from the left.
-use Rattle.std.proofs.Common.{◌≡◌, ◌≢◌, ℕ, zero, suc, ◌+◌, ◌-◌, ◌*◌, ◌<◌, ◌≤◌, ◌^◌, ◌&&◌, ◌==◌, true, false, List, [], ◌∷◌, length, drop, get_or, cond, refl, ap, sym, ◌∙◌, arith, Option, Some, None, drop-cons, add-one}
-use Rattle.std.specs.Prelude.{nat_le, ℤ, pos, negsuc, neg_ℤ, int_le, ◌≤ℤ◌, IfSome, if◌then◌else◌}
+use Rattle.std.proofs.Common.{◌≡◌, ◌≢◌, ℕ, zero, suc, ◌+◌, ◌-◌, ◌*◌, ◌<◌, ◌≤◌, ◌^◌, ◌&&◌, ◌==◌, true, false, List, [], ◌∷◌, length, drop, get_or, refl, ap, sym, ◌∙◌, arith, Option, Some, None, drop-cons, add-one}
+use Rattle.std.specs.Prelude.{nat_le, ℤ, pos, negsuc, neg_ℤ, int_le, if◌then◌else◌}
 use Rattle.std.proofs.Math.Seq.{drop-length}
 use Rattle.std.proofs.lemmas.Bool.{leb-true, leb-false, le-leb, eqb-true}
 use Rattle.std.specs.Option.{option_map}
-use Rattle.apl_base.specs.Number.{is_number}
 use Rattle.apl_base.specs.Scalar.{in_range}
 use Rattle.apl_model.specs.Characters.{is_digit, all_pass, are_digits, decimal_after, number_of}
 

@@ -1,10 +1,10 @@
 -- The first refusal of a script's bytes and characters, as it is computed, is the first of all that there are.
 use Rattle.std.proofs.Common.{◌≡◌, ℕ, zero, suc, ◌+◌, ◌<◌, ◌≤◌, ◌==◌, nat_lt, true, false, Bool, List, [], ◌∷◌, length, take, Option, None, Some, ◌⊎◌, inl, inr, refl, sym, ap, subst, ◌∙◌, arith}
-use Rattle.std.specs.Prelude.{nat_le, if◌then◌else◌, map, ℤ, IfSome}
+use Rattle.std.specs.Prelude.{nat_le, if◌then◌else◌, map, IfSome}
 use Rattle.std.specs.List.{IsAmong, prefix_len}
 use Rattle.std.specs.Option.{option_or, option_map, unwrap_or}
 use Rattle.std.specs.Str.Lossy.{utf8_valid_len}
-use Rattle.std.proofs.lemmas.Bool.{ltb-true, ltb-false, leb-true, leb-false, lt-ltb}
+use Rattle.std.proofs.lemmas.Bool.{ltb-true, ltb-false, leb-true, leb-false}
 use Rattle.std.proofs.lemmas.Str.{utf8_valid_len_le}
 use Rattle.apl_base.specs.declared.faults.Cause.{Cause}
 use Rattle.apl_base.specs.declared.faults.Cause.TheVariants as cause
@@ -12,8 +12,8 @@ use Rattle.apl_base.specs.declared.faults.Refusal.{Refusal}
 use Rattle.apl_model.proofs.Accepted.{among_here, among_there, among_cases, among_none, numbered_tokens, all_sound}
 use Rattle.apl_model.specs.Characters.{is_letter, begins_number, code, is_glyph, read_as, is_number_part, number_of, is_blank}
 use Rattle.apl_model.specs.Lines.{readable, without_mark, cut, onto_first, without_return, texts_of, numbered, lines_of}
-use Rattle.apl_model.specs.Refusal.{refusal, place_after, place_of_end, IsReadingRefusal, ill_formed, long_line, at_fault, rank, phase, order, IsNotAfter, IsFirst, IsFirstIfAny}
-use Rattle.apl_model.specs.Tokens.{Found, number, text, name, glyph, fault, Beginning, quoted, Quoted, name_at, number_at, text_at, beginning, Piece, pieces_after, pieces, tokens, IsRead}
+use Rattle.apl_model.specs.Refusal.{refusal, place_after, place_of_end, IsReadingRefusal, ill_formed, long_line, at_fault, rank, phase, order, IsNotAfter, IsFirstIfAny}
+use Rattle.apl_model.specs.Tokens.{Found, number, text, name, glyph, fault, Beginning, quoted, name_at, number_at, text_at, beginning, Piece, pieces_after, pieces, tokens, IsRead}
 use Rattle.apl_model.specs.declared.tokens.Line.{Line}
 use Rattle.apl_read.specs.Refusals.{Fault, first_fault, long_fault, line_fault, refusal_of_fault, lines_refusal, bytes_refusal, reading_refusal}
 

@@ -1,10 +1,9 @@
 -- Words of a line: names and numeric words.
-use Rattle.std.proofs.Common.{◌≡◌, ℕ, suc, ◌+◌, ◌-◌, ◌<◌, ◌≤◌, nat_lt, not, true, false, Bool, List, [], ◌∷◌, ◌++◌, length, take, drop, get_or, cond, refl, ap, sym, ◌∙◌, arith, Option, Some, None, drop-cons, add-one}
+use Rattle.std.proofs.Common.{◌≡◌, ℕ, suc, ◌+◌, ◌-◌, ◌<◌, true, false, Bool, List, ◌∷◌, length, take, drop, get_or, refl, ap, ◌∙◌, arith, drop-cons, add-one}
 use Rattle.std.proofs.lemmas.Grind.{common_steps}
 use Rattle.std.proofs.lemmas.List.Sums.{prefix_len-drop_yes, prefix_len-drop_no, prefix_len-drop_all}
-use Rattle.std.specs.List.{prefix_len, position, position_or_len}
-use Rattle.std.specs.Option.{unwrap_or, option_map}
-use Rattle.apl_model.specs.Characters.{is_name_part, is_number_part, number_of}
+use Rattle.std.specs.List.{prefix_len}
+use Rattle.apl_model.specs.Characters.{is_name_part, is_number_part}
 use Rattle.apl_model.specs.Tokens.{Found, Beginning, name_at, number_at, name}
 use Rattle.apl_read.specs.Pieces.{number_found}
 

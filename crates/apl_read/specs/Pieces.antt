@@ -1,5 +1,5 @@
 -- What the reader's own types stand for.
-use Rattle.std.specs.Prelude.{◌≡◌, ℕ, ◌+◌, ◌≤◌, List, [], ◌∷◌, ◌++◌, length, drop, if◌then◌else◌, Option, Some, None, ℤ, map, pos}
+use Rattle.std.specs.Prelude.{ℕ, ◌+◌, List, [], ◌∷◌, ◌++◌, drop, if◌then◌else◌, ℤ}
 use Rattle.std.specs.Option.{option_map, unwrap_or}
 use Rattle.apl_base.specs.declared.faults.Cause.TheVariants as cause
 use Rattle.apl_model.specs.Characters.{is_glyph, read_as, number_of}
@@ -7,7 +7,6 @@ use Rattle.apl_model.specs.Tokens.{Piece, Beginning, pieces, pieces_after, token
 use Rattle.apl_model.specs.Tokens as model
 use Rattle.apl_model.specs.declared.tokens.Token.{Token}
 use Rattle.apl_model.specs.declared.tokens.Word.TheVariants as word
-use Rattle.apl_read.specs.Refusals.{first_fault}
 use Rattle.apl_read.specs.declared.pieces.Begun.{Begun}
 use Rattle.apl_read.specs.declared.pieces.Found.{Found}
 use Rattle.apl_read.specs.declared.pieces.Found.TheVariants.{Number, Text, Name, Glyph, Fault}

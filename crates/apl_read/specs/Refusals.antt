@@ -7,7 +7,7 @@ use Rattle.apl_base.specs.declared.faults.Cause.TheVariants as cause
 use Rattle.apl_base.specs.declared.faults.Refusal.{Refusal}
 use Rattle.apl_model.specs.Lines.{texts_of}
 use Rattle.apl_model.specs.Refusal.{refusal, place_of_end}
-use Rattle.apl_model.specs.Tokens.{Found, Piece, pieces, fault}
+use Rattle.apl_model.specs.Tokens.{Piece, pieces, fault}
 
 -- a cause, at a column of a line
 pub record Fault : Type 0 where

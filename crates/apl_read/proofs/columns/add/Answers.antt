@@ -1,6 +1,6 @@
-use Rattle.std.proofs.Common.{◌≡◌, ◌∷◌, List, ap, sym, subst, ◌∙◌}
+use Rattle.std.proofs.Common.{◌≡◌, ◌∷◌, ap, sym, subst, ◌∙◌}
 use Rattle.std.specs.Prelude.{map, pos}
-use Rattle.apl_model.specs.Tokens.{Piece, tokens_of_pieces}
+use Rattle.apl_model.specs.Tokens.{tokens_of_pieces}
 use Rattle.apl_model.specs.declared.tokens.Word.TheVariants as word
 use Rattle.apl_read.proofs.StepLemmas.{text_token}
 use Rattle.apl_read.specs.Pieces.{found_of, made_before}

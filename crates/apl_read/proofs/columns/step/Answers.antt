@@ -1,11 +1,11 @@
-use Rattle.std.proofs.Common.{◌≡◌, ◌+◌, ◌∷◌, ◌≤◌, ℕ, List, false, drop, length, get_or, ap, sym, subst, ◌∙◌, arith}
+use Rattle.std.proofs.Common.{◌≡◌, ◌+◌, ◌∷◌, false, get_or, ap, sym, subst, ◌∙◌, arith}
 use Rattle.std.proofs.lemmas.Grind.{get_or_default_zero}
 use Rattle.std.proofs.lemmas.Result.{err_from_is_err_and}
 use Rattle.std.specs.Option.{option_map}
 use Rattle.apl_model.specs.Characters.{is_blank}
-use Rattle.apl_model.specs.Tokens.{Piece, tokens_of_pieces}
+use Rattle.apl_model.specs.Tokens.{tokens_of_pieces}
 use Rattle.apl_read.proofs.StepLemmas.{at_piece}
-use Rattle.apl_read.specs.Pieces.{beginning_of, found_of, made_before, pieces_from}
+use Rattle.apl_read.specs.Pieces.{beginning_of, made_before, pieces_from}
 use Rattle.apl_model.specs.ReadFaults.{IsRefusedAs}
 use Rattle.apl_read.specs.Refusals.{first_fault, refusal_of_fault}
 use Rattle.apl_read.proofs.columns.step.Goals as goal

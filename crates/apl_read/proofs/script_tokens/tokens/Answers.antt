@@ -1,6 +1,5 @@
-use Rattle.std.proofs.Common.{◌≡◌, subst}
+use Rattle.std.proofs.Common.{subst}
 use Rattle.std.proofs.lemmas.Result.{err_from_is_err_and}
-use Rattle.apl_base.specs.declared.faults.Refusal.{Refusal}
 use Rattle.apl_model.specs.Refusal.{IsReadingRefusal, IsFirstIfAny}
 use Rattle.apl_read.proofs.AnswerLemmas.{refused_first}
 use Rattle.apl_read.proofs.FirstRefusal.{first_refusal, all_whole, all_short, all_read}
