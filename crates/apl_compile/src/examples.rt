@@ -29,7 +29,7 @@ pub fn examples_of_code()
         ∷ []) }
     ensures the_right_argument_is_first { HasCodes script.a_sum_with_a_product
         (code 1 ((5, puts 3) ∷ (3, puts 2) ∷ (4, applies dya.Mul)
-            ∷ (1, reads "A") ∷ (2, applies dya.Add) ∷ prints)
+        ∷ (1, reads "A") ∷ (2, applies dya.Add) ∷ prints)
         ∷ []) }
     ensures a_parenthesis_has_none { HasCodes script.functions_of_arrays
         (code 1 ((3, reads "A") ∷ (2, op.Mon one.Shape) ∷ prints)
@@ -39,9 +39,9 @@ pub fn examples_of_code()
         ∷ []) }
     ensures the_last_position_is_first { HasCodes script.positions_of_arrays
         (code 1 ((6, reads "C") ∷ (3, reads "B") ∷ (1, reads "A")
-            ∷ (2, op.Index (true ∷ false ∷ true ∷ [])) ∷ prints)
+        ∷ (2, op.Index (true ∷ false ∷ true ∷ [])) ∷ prints)
         ∷ code 2 ((7, reads "C") ∷ (3, reads "B")
-            ∷ (2, op.Iasg (codes "A") (true ∷ false ∷ [])) ∷ ends)
+        ∷ (2, op.Iasg (codes "A") (true ∷ false ∷ [])) ∷ ends)
         ∷ []) }
     ensures a_statement_prints_once_at_most { HasCodes script.statements_without_a_print
         (code 1 ((3, puts 1) ∷ (1, gives "A") ∷ ends)
@@ -58,32 +58,32 @@ pub fn examples_of_code()
 {}
 
 /// The codes of scripts without definitions.
-pub fn examples_of_codes()
+pub fn examples_of_statements()
     ensures an_output_in_parentheses { HasCodes
         errors.an_error_comes_before_an_output_to_its_left
         (code 1 ((9, puts 0) ∷ (7, puts 5) ∷ (8, applies dya.Div)
-            ∷ (4, puts 1) ∷ (2, op.Show) ∷ (6, applies dya.Add) ∷ prints)
+        ∷ (4, puts 1) ∷ (2, op.Show) ∷ (6, applies dya.Add) ∷ prints)
         ∷ []) }
     ensures a_position { HasCodes subscripts.a_position_beyond_the_length
         (code 1 ((6, puts 4) ∷ (3, puts 3) ∷ (2, op.Mon one.Iota)
-            ∷ (5, op.Index (true ∷ [])) ∷ prints)
+        ∷ (5, op.Index (true ∷ [])) ∷ prints)
         ∷ []) }
     ensures a_product_of_two_tables { HasCodes products.a_product_of_two_tables
         (code 1 ((21, puts_all (5 ∷ 6 ∷ 7 ∷ 8 ∷ [])) ∷ (17, puts_all (2 ∷ 2 ∷ []))
-            ∷ (20, op.Dya two.Reshape)
-            ∷ (6, puts_all (1 ∷ 2 ∷ 3 ∷ 4 ∷ [])) ∷ (2, puts_all (2 ∷ 2 ∷ []))
-            ∷ (5, op.Dya two.Reshape)
-            ∷ (15, op.Inner dya.Add dya.Mul) ∷ prints)
+        ∷ (20, op.Dya two.Reshape)
+        ∷ (6, puts_all (1 ∷ 2 ∷ 3 ∷ 4 ∷ [])) ∷ (2, puts_all (2 ∷ 2 ∷ []))
+        ∷ (5, op.Dya two.Reshape)
+        ∷ (15, op.Inner dya.Add dya.Mul) ∷ prints)
         ∷ []) }
     ensures sales_by_quarter { HasCodes products.sales_by_quarter
         (code 2 ((8, puts 12) ∷ (7, op.Mon one.Iota) ∷ (3, puts_all (3 ∷ 4 ∷ []))
-            ∷ (6, op.Dya two.Reshape) ∷ (1, gives "S") ∷ ends)
+        ∷ (6, op.Dya two.Reshape) ∷ (1, gives "S") ∷ ends)
         ∷ code 3 ((3, reads "S") ∷ (2, op.Red dya.Add axis.Last) ∷ prints)
         ∷ code 4 ((6, reads "S") ∷ (2, op.Red dya.Add (axis.Numbered (pos 1))) ∷ prints)
         ∷ code 5 ((3, puts 2) ∷ (1, reads "S") ∷ (2, op.Index (true ∷ false ∷ [])) ∷ prints)
         ∷ code 6 ((2, reads "S") ∷ (1, op.Mon (one.Reverse axis.Last)) ∷ prints)
         ∷ code 7 ((10, reads "S") ∷ (1, puts_all (1 ∷ 0 ∷ 1 ∷ []))
-            ∷ (6, op.Dya (two.Compress (axis.Numbered (pos 1)))) ∷ prints)
+        ∷ (6, op.Dya (two.Compress (axis.Numbered (pos 1)))) ∷ prints)
         ∷ []) }
     ensures an_indexed_assignment { HasCodes subscripts.a_write_to_an_unset_name
         (code 1 ((6, puts 2) ∷ (3, puts 1) ∷ (2, op.Iasg (codes "Q") (true ∷ [])) ∷ ends) ∷ []) }
@@ -96,7 +96,7 @@ pub fn examples_of_programs()
         ∷ code 3 ((3, puts 0) ∷ (1, gives "Z") ∷ ends)
         ∷ code 5 ((3, puts_all (1 ∷ 2 ∷ [])) ∷ (1, gives "A") ∷ ends)
         ∷ code 6 ((9, puts 10) ∷ (7, reads "A") ∷ (8, applies dya.Mul)
-            ∷ (4, puts 0) ∷ (2, op.Call (codes "F") 1 false) ∷ (6, applies dya.Add) ∷ prints)
+        ∷ (4, puts 0) ∷ (2, op.Call (codes "F") 1 false) ∷ (6, applies dya.Add) ∷ prints)
         ∷ code 7 ((1, reads "A") ∷ prints)
         ∷ []) }
     ensures a_loop_without_end { HasCodes calls.a_loop_without_end
@@ -109,18 +109,18 @@ pub fn examples_of_programs()
         ∷ code 4 ((7, reads "I") ∷ (5, reads "Z") ∷ (6, applies dya.Add) ∷ (3, gives "Z") ∷ ends)
         ∷ code 5 ((5, puts 1) ∷ (3, reads "I") ∷ (4, applies dya.Add) ∷ (1, gives "I") ∷ ends)
         ∷ code 6 ((6, reads "N") ∷ (4, reads "I") ∷ (5, applies dya.Le)
-            ∷ (2, reads "L") ∷ (3, applies dya.Mul) ∷ (1, op.Goto) ∷ ends)
+        ∷ (2, reads "L") ∷ (3, applies dya.Mul) ∷ (1, op.Goto) ∷ ends)
         ∷ code 8 ((5, puts 4) ∷ (1, op.Call (codes "SUM") 1 true) ∷ prints)
         ∷ []) }
     ensures the_items_of_a_loop { HasItems calls.a_loop_adds_up
         (outline.Definition 1 7
-            (header (Some (codes "Z")) None "SUM" (Some (codes "N")) ("I" ∷ []))
-            (body_outline 2 unlabelled
-            ∷ body_outline 3 unlabelled
-            ∷ body_outline 4 (label "L")
-            ∷ body_outline 5 unlabelled
-            ∷ body_outline 6 unlabelled
-            ∷ [])
+        (header (Some (codes "Z")) None "SUM" (Some (codes "N")) ("I" ∷ []))
+        (body_outline 2 unlabelled
+        ∷ body_outline 3 unlabelled
+        ∷ body_outline 4 (label "L")
+        ∷ body_outline 5 unlabelled
+        ∷ body_outline 6 unlabelled
+        ∷ [])
         ∷ outline.Statement 8
         ∷ []) }
 {}
