@@ -69,8 +69,8 @@ abbrev pub instruction : ℕ → ℕ × Op → Instruction
 instruction line step = record { place = at line (step.0); op = step.1 }
 
 -- the code of the statement on a line
-abbrev pub code : ℕ → List (ℕ × Op) → Code
-code line steps = record { instructions = map (instruction line) steps }
+abbrev pub on_line : ℕ → List (ℕ × Op) → Code
+on_line line steps = record { instructions = map (instruction line) steps }
 
 -- the script's statements have these codes, in the order of lines
 abbrev pub HasCodes : Script → List Code → Type 0
