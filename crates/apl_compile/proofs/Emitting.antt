@@ -2,10 +2,16 @@
 use Rattle.std.proofs.Common.{◌≡◌, ℕ, ◌+◌, ◌<◌, suc, Bool, true, false, List, [], ◌∷◌, ◌++◌, map, drop, length, Option, Some, None, Result, OnOk, is_some, refl, ap, sym, ◌∙◌, append_assoc, get_or, add-one, drop-cons}
 use Rattle.std.proofs.lemmas.Result.{on_ok_weaker}
 use Rattle.apl_base.specs.declared.faults.Place.{Place}
-use Rattle.apl_model.proofs.Bridge.{slot_with, positions_with, tree-index, tree-assign, tree-index_assign, tree-output}
+use Rattle.apl_model.proofs.Bridge.{slot_with, positions_with, tree-one, tree-two, tree-reduce, tree-outer, tree-inner, tree-index, tree-assign, tree-index_assign, tree-output}
 use Rattle.apl_model.specs.Mirror.{tree_of}
-use Rattle.apl_model.specs.declared.trees.Expr.{Expr, Index, Assign, IndexAssign, Output}
-use Rattle.apl_compile.specs.Code.{at, mask_of, expression_code, slot_code, positions_code}
+use Rattle.apl_base.specs.declared.rows.Dya.{Dya}
+use Rattle.apl_model.specs.Tree as plain
+use Rattle.apl_model.specs.Tree.{Tree}
+use Rattle.apl_model.specs.declared.functions.Axis.{Axis}
+use Rattle.apl_model.specs.declared.functions.DyaFn.{DyaFn}
+use Rattle.apl_model.specs.declared.functions.MonFn.{MonFn}
+use Rattle.apl_model.specs.declared.trees.Expr.{Expr, One, Two, Reduce, Outer, Inner, Index, Assign, IndexAssign, Output}
+use Rattle.apl_compile.specs.Code.{mask_of, own_code, expression_code, slot_code, positions_code}
 use Rattle.apl_compile.specs.declared.codes.Instruction.{Instruction}
 use Rattle.apl_compile.specs.declared.codes.Op.TheVariants as op
 
@@ -13,37 +19,51 @@ use Rattle.apl_compile.specs.declared.codes.Op.TheVariants as op
 pub behind : {A X E : Type 0} (r : Result X E) (old whole before last after : List A) → OnOk r (after ≡ before ++ last) → before ++ last ≡ old ++ whole → OnOk r (after ≡ old ++ whole)
 behind r old whole before last after h e = on_ok_weaker r (λ x. x ∙ e) h
 
--- the code of a node behind a code, from that of its parts
-after_part : (old first : List Instruction) (part was : List Instruction) (last : List Instruction) → first ≡ old ++ was → was ≡ part → first ++ last ≡ old ++ (part ++ last)
-after_part old first part was last e f = ap (λ c. c ++ last) (e ∙ ap (λ x. old ++ x) f) ∙ append_assoc old part last
+-- the code of a node behind a code: that of its one part, and its own
+pub behind_one : (old first part was own whole : List Instruction) → first ≡ old ++ was → was ≡ part → whole ≡ part ++ own → first ++ own ≡ old ++ whole
+behind_one old first part was own whole h f e =
+    ap (λ c. c ++ own) (h ∙ ap (λ x. old ++ x) f) ∙ append_assoc old part own ∙ ap (λ c. old ++ c) (sym e)
 
-pub behind-output : (old first : List Instruction) (e v was : Expr) (p : Place) → first ≡ old ++ expression_code (tree_of was) → was ≡ v → e ≡ Output v p → first ++ at p op.Show ≡ old ++ expression_code (tree_of e)
-behind-output old first e v was p h f is =
-    after_part old first (expression_code (tree_of v)) (expression_code (tree_of was)) (at p op.Show) h (ap (λ x. expression_code (tree_of x)) f)
-    ∙ ap (λ c. old ++ c) (sym (ap (λ x. expression_code (tree_of x)) is ∙ ap expression_code (tree-output v p)))
+-- or that of its two parts
+pub behind_two : (old first second right left was other own whole : List Instruction) → first ≡ old ++ was → was ≡ right → second ≡ first ++ other → other ≡ left → whole ≡ right ++ (left ++ own) → second ++ own ≡ old ++ whole
+behind_two old first second right left was other own whole h f k g e =
+    behind_one first second left other own (left ++ own) k g refl ∙ behind_one old first right was (left ++ own) whole h f e
 
-pub behind-assign : (old first : List Instruction) (e v was : Expr) (n m : List ℕ) (p : Place) → first ≡ old ++ expression_code (tree_of was) → was ≡ v → m ≡ n → e ≡ Assign n v p → first ++ at p (op.Asg m) ≡ old ++ expression_code (tree_of e)
-behind-assign old first e v was n m p h f g is =
-    ap (λ x. first ++ at p (op.Asg x)) g
-    ∙ after_part old first (expression_code (tree_of v)) (expression_code (tree_of was)) (at p (op.Asg n)) h (ap (λ x. expression_code (tree_of x)) f)
-    ∙ ap (λ c. old ++ c) (sym (ap (λ x. expression_code (tree_of x)) is ∙ ap expression_code (tree-assign n v p)))
+-- an expression with this tree has the code of its parts, and its own
+split : (e : Expr) (t : Tree) (parts : List Instruction) → tree_of e ≡ t → expression_code t ≡ parts ++ own_code t → expression_code (tree_of e) ≡ parts ++ own_code (tree_of e)
+split e t parts b h = ap expression_code b ∙ h ∙ ap (λ x. parts ++ own_code x) (sym b)
 
-pub behind-index : (old first second : List Instruction) (e a was : Expr) (qs rs ms : List (Option Expr)) (mask : List Bool) (p : Place) → first ≡ old ++ positions_code (positions_with rs) → second ≡ first ++ expression_code (tree_of was) → rs ≡ qs → ms ≡ qs → was ≡ a → mask ≡ mask_of (positions_with ms) → e ≡ Index a qs p → second ++ at p (op.Index mask) ≡ old ++ expression_code (tree_of e)
-behind-index old first second e a was qs rs ms mask p h k r m f g is =
-    let last = at p (op.Index (mask_of (positions_with qs))) in
-    ap (λ x. second ++ at p (op.Index x)) (g ∙ ap (λ x. mask_of (positions_with x)) m)
-    ∙ after_part first second (expression_code (tree_of a)) (expression_code (tree_of was)) last k (ap (λ x. expression_code (tree_of x)) f)
-    ∙ after_part old first (positions_code (positions_with qs)) (positions_code (positions_with rs)) (expression_code (tree_of a) ++ last) h (ap (λ x. positions_code (positions_with x)) r)
-    ∙ ap (λ c. old ++ c) (sym (ap (λ x. expression_code (tree_of x)) is ∙ ap expression_code (tree-index a qs p)))
+split_two : (e : Expr) (t : Tree) (right left : List Instruction) → tree_of e ≡ t → expression_code t ≡ right ++ (left ++ own_code t) → expression_code (tree_of e) ≡ right ++ (left ++ own_code (tree_of e))
+split_two e t right left b h = ap expression_code b ∙ h ∙ ap (λ x. right ++ (left ++ own_code x)) (sym b)
 
-pub behind-index_assign : (old first second : List Instruction) (e v was : Expr) (n name : List ℕ) (qs rs ms : List (Option Expr)) (mask : List Bool) (p : Place) → first ≡ old ++ expression_code (tree_of was) → second ≡ first ++ positions_code (positions_with rs) → rs ≡ qs → ms ≡ qs → was ≡ v → name ≡ n → mask ≡ mask_of (positions_with ms) → e ≡ IndexAssign n qs v p → second ++ at p (op.Iasg name mask) ≡ old ++ expression_code (tree_of e)
-behind-index_assign old first second e v was n name qs rs ms mask p h k r m f j g is =
-    let last = at p (op.Iasg n (mask_of (positions_with qs))) in
-    ap (λ x. second ++ at p (op.Iasg x mask)) j
-    ∙ ap (λ x. second ++ at p (op.Iasg n x)) (g ∙ ap (λ x. mask_of (positions_with x)) m)
-    ∙ after_part first second (positions_code (positions_with qs)) (positions_code (positions_with rs)) last k (ap (λ x. positions_code (positions_with x)) r)
-    ∙ after_part old first (expression_code (tree_of v)) (expression_code (tree_of was)) (positions_code (positions_with qs) ++ last) h (ap (λ x. expression_code (tree_of x)) f)
-    ∙ ap (λ c. old ++ c) (sym (ap (λ x. expression_code (tree_of x)) is ∙ ap expression_code (tree-index_assign n qs v p)))
+module _ (e part : Expr) where
+  pub split-one : (f : MonFn) (p : Place) → e ≡ One f part p → expression_code (tree_of e) ≡ expression_code (tree_of part) ++ own_code (tree_of e)
+  split-one f p is = split e (plain.monadic f (tree_of part) p) (expression_code (tree_of part)) (ap tree_of is ∙ tree-one f part p) refl
+
+  pub split-reduce : (f : Dya) (x : Axis) (p : Place) → e ≡ Reduce f x part p → expression_code (tree_of e) ≡ expression_code (tree_of part) ++ own_code (tree_of e)
+  split-reduce f x p is = split e (plain.reduction f x (tree_of part) p) (expression_code (tree_of part)) (ap tree_of is ∙ tree-reduce f x part p) refl
+
+  pub split-assign : (n : List ℕ) (p : Place) → e ≡ Assign n part p → expression_code (tree_of e) ≡ expression_code (tree_of part) ++ own_code (tree_of e)
+  split-assign n p is = split e (plain.assignment n (tree_of part) p) (expression_code (tree_of part)) (ap tree_of is ∙ tree-assign n part p) refl
+
+  pub split-output : (p : Place) → e ≡ Output part p → expression_code (tree_of e) ≡ expression_code (tree_of part) ++ own_code (tree_of e)
+  split-output p is = split e (plain.output (tree_of part) p) (expression_code (tree_of part)) (ap tree_of is ∙ tree-output part p) refl
+
+module _ (e left right : Expr) where
+  pub split-two : (f : DyaFn) (p : Place) → e ≡ Two f left right p → expression_code (tree_of e) ≡ expression_code (tree_of right) ++ (expression_code (tree_of left) ++ own_code (tree_of e))
+  split-two f p is = split_two e (plain.dyadic f (tree_of left) (tree_of right) p) (expression_code (tree_of right)) (expression_code (tree_of left)) (ap tree_of is ∙ tree-two f left right p) refl
+
+  pub split-outer : (f : Dya) (p : Place) → e ≡ Outer f left right p → expression_code (tree_of e) ≡ expression_code (tree_of right) ++ (expression_code (tree_of left) ++ own_code (tree_of e))
+  split-outer f p is = split_two e (plain.outer_product f (tree_of left) (tree_of right) p) (expression_code (tree_of right)) (expression_code (tree_of left)) (ap tree_of is ∙ tree-outer f left right p) refl
+
+  pub split-inner : (f g : Dya) (p : Place) → e ≡ Inner f g left right p → expression_code (tree_of e) ≡ expression_code (tree_of right) ++ (expression_code (tree_of left) ++ own_code (tree_of e))
+  split-inner f g p is = split_two e (plain.inner_product f g (tree_of left) (tree_of right) p) (expression_code (tree_of right)) (expression_code (tree_of left)) (ap tree_of is ∙ tree-inner f g left right p) refl
+
+pub split-index : (e a : Expr) (qs : List (Option Expr)) (p : Place) → e ≡ Index a qs p → expression_code (tree_of e) ≡ positions_code (positions_with qs) ++ (expression_code (tree_of a) ++ own_code (tree_of e))
+split-index e a qs p is = split_two e (plain.subscript (tree_of a) (positions_with qs) p) (positions_code (positions_with qs)) (expression_code (tree_of a)) (ap tree_of is ∙ tree-index a qs p) refl
+
+pub split-index_assign : (e v : Expr) (n : List ℕ) (qs : List (Option Expr)) (p : Place) → e ≡ IndexAssign n qs v p → expression_code (tree_of e) ≡ expression_code (tree_of v) ++ (positions_code (positions_with qs) ++ own_code (tree_of e))
+split-index_assign e v n qs p is = split_two e (plain.indexed_assignment n (positions_with qs) (tree_of v) p) (expression_code (tree_of v)) (positions_code (positions_with qs)) (ap tree_of is ∙ tree-index_assign n qs v p) refl
 
 -- which positions are there
 pub mask-positions : (qs : List (Option Expr)) → mask_of (positions_with qs) ≡ map is_some qs

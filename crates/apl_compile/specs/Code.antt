@@ -30,25 +30,41 @@ mask_of (position q qs) = is_given q ∷ mask_of qs
 
 -- ---- expressions
 
+-- the instruction of a node itself. A parenthesis has none
+abbrev pub own_code : Tree → List Instruction
+own_code (constant literal place) = at place (op.Lit literal)
+own_code (variable name place) = at place (op.Name name)
+own_code (call f left right place) = at place (op.Call f (arguments left right) false)
+own_code (parenthesis inner place) = []
+own_code (monadic f right place) = at place (op.Mon f)
+own_code (dyadic f left right place) = at place (op.Dya f)
+own_code (reduction f axis right place) = at place (op.Red f axis)
+own_code (outer_product f left right place) = at place (op.Outer f)
+own_code (inner_product f g left right place) = at place (op.Inner f g)
+own_code (subscript array qs place) = at place (op.Index (mask_of qs))
+own_code (assignment name value place) = at place (op.Asg name)
+own_code (indexed_assignment name qs value place) = at place (op.Iasg name (mask_of qs))
+own_code (output value place) = at place op.Show
+
 abbrev mutual
-  -- The right argument first, then the left one, then the function. A parenthesis has no instruction.
+  -- The right argument first, then the left one, then the function.
   pub expression_code : Tree → List Instruction
-  expression_code (constant literal place) = at place (op.Lit literal)
-  expression_code (variable name place) = at place (op.Name name)
-  expression_code (call f left right place) =
-      slot_code right ++ (slot_code left ++ at place (op.Call f (arguments left right) false))
+  expression_code (constant literal place) = own_code (constant literal place)
+  expression_code (variable name place) = own_code (variable name place)
+  expression_code (call f left right place) = slot_code right ++ (slot_code left ++ own_code (call f left right place))
   expression_code (parenthesis inner place) = expression_code inner
-  expression_code (monadic f right place) = expression_code right ++ at place (op.Mon f)
-  expression_code (dyadic f left right place) = expression_code right ++ (expression_code left ++ at place (op.Dya f))
-  expression_code (reduction f axis right place) = expression_code right ++ at place (op.Red f axis)
-  expression_code (outer_product f left right place) = expression_code right ++ (expression_code left ++ at place (op.Outer f))
-  expression_code (inner_product f g left right place) = expression_code right ++ (expression_code left ++ at place (op.Inner f g))
+  expression_code (monadic f right place) = expression_code right ++ own_code (monadic f right place)
+  expression_code (dyadic f left right place) = expression_code right ++ (expression_code left ++ own_code (dyadic f left right place))
+  expression_code (reduction f axis right place) = expression_code right ++ own_code (reduction f axis right place)
+  expression_code (outer_product f left right place) = expression_code right ++ (expression_code left ++ own_code (outer_product f left right place))
+  expression_code (inner_product f g left right place) = expression_code right ++ (expression_code left ++ own_code (inner_product f g left right place))
   -- the positions from the last to the first, then the array
-  expression_code (subscript array qs place) = positions_code qs ++ (expression_code array ++ at place (op.Index (mask_of qs)))
-  expression_code (assignment name value place) = expression_code value ++ at place (op.Asg name)
+  expression_code (subscript array qs place) = positions_code qs ++ (expression_code array ++ own_code (subscript array qs place))
+  expression_code (assignment name value place) = expression_code value ++ own_code (assignment name value place)
   -- the value, then the positions from the last to the first, then the write
-  expression_code (indexed_assignment name qs value place) = expression_code value ++ (positions_code qs ++ at place (op.Iasg name (mask_of qs)))
-  expression_code (output value place) = expression_code value ++ at place op.Show
+  expression_code (indexed_assignment name qs value place) =
+      expression_code value ++ (positions_code qs ++ own_code (indexed_assignment name qs value place))
+  expression_code (output value place) = expression_code value ++ own_code (output value place)
 
   -- an argument or a position that is left out has no instruction
   pub slot_code : Slot → List Instruction

@@ -6,7 +6,7 @@ ghost use Rattle.apl_model.specs.Mirror.{tree_of, statement_of};
 ghost use Rattle.apl_compile.specs.Code.{ending, printing, whole_code, code_on, line_of, statement_line, code_of};
 
 use crate::codes::{Code, Instruction, Op};
-use crate::expressions::{argument_count, emit, emit_argument, put};
+use crate::expressions::{call_op, emit, emit_argument, put};
 use apl_base::{NoMemory, Place};
 use apl_model::{Expr, Statement};
 use sqlite_items::Items;
@@ -56,15 +56,7 @@ fn emit_whole(
         } => {
             emit_argument(alloc, right, code)?;
             emit_argument(alloc, left, code)?;
-            put(
-                code,
-                *place,
-                Op::Call {
-                    f: f.copy(alloc)?,
-                    arguments: argument_count(left, right),
-                    whole: true,
-                },
-            )?;
+            put(code, *place, call_op(alloc, f, left, right, true)?)?;
             put_print(line, code)
         }
         Expr::Assign { .. } | Expr::IndexAssign { .. } | Expr::Output { .. } => {
