@@ -11,7 +11,7 @@ use array_store::{OwnerId, Store};
 use value_stack::Stack;
 
 /// Writes one cell of an owner that is held once, where no entry from a position on reads it: whether none does. Then
-/// older entries alone name the owner, and the entries from there on mean what they meant. Otherwise nothing is written.
+/// older entries alone name the owner, and those from there on mean what they meant. Otherwise nothing is written.
 pub fn write_unread_from(
     owner: OwnerId,
     from: usize,
