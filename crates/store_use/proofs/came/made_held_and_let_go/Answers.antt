@@ -1,8 +1,14 @@
-use Rattle.std.proofs.Common.{◌≡◌, length, vec_len, refl, ap, ◌∙◌, arith, rules}
+use Rattle.std.proofs.Common.{[], ◌≡◌, length, vec_len, refl, ap, ◌∙◌, arith, rules, subst, sym}
 use Rattle.array_store.specs.Stores.{StoreView}
+use Rattle.array_store.specs.Came.{Renews}
+use Rattle.array_store.proofs.CameLemmas.{renews_nothing}
 use Rattle.array_store.proofs.CountingLemmas.{costs_nothing, costs_then, costs_more, costs_made}
 use Rattle.store_use.proofs.Passing.{none_came}
 use Rattle.store_use.proofs.came.made_held_and_let_go.Goals as goal
+
+pub returns-in_err-owner-clause-came : goal.returns-in_err-owner-clause-came
+returns-in_err-owner-clause-came c =
+    subst (λ (s : StoreView). Renews c.args.store.now s []) (sym c.in_err-owner.ensures.unchanged) (renews_nothing c.args.store.now)
 
 pub returns-clause-came : goal.returns-clause-came
 returns-clause-came c =
