@@ -3,7 +3,7 @@
 ghost use Rattle.std.specs.Prelude.{◌≡◌, ◌-◌, ◌↔◌, [], ◌∷◌, ◌++◌, IsTrue, length, take, Some, slice_get, ◌<◌, IfOk, OnOk, OnErr};
 ghost use Rattle.std.specs.List.{AllByRecursion};
 ghost use Rattle.apl_base.specs.Interval.{IsInterval};
-ghost use Rattle.array_store.specs.Follows.{Holds};
+ghost use Rattle.array_store.specs.Follows.{Follows, Holds};
 ghost use Rattle.drag_along.specs.Nodes.{leaf_shape};
 ghost use Rattle.drag_along.specs.Segments.{SegmentView, IsSegment, leaf_segment, side_of};
 ghost use Rattle.drag_along.specs.Meaning.{Means, leaf_array, combined2, entry};
@@ -26,6 +26,8 @@ pub fn drop_newest(stack: &mut Stack, store: &mut Store)
     ensures dropped { stack.new ≡ take (length stack.old - 1) stack.old }
     ensures stands { Becomes store.old store.new stack.old stack.new
         (entries store.old stack.new) }
+    ensures follows { Follows store.old store.new (named_on stack.old) (named_on stack.new) }
+    ensures holds { Holds store.new (named_on stack.new) }
 {
     let Some(newest) = stack.pop() else {
         return;
