@@ -1,10 +1,12 @@
 -- What becomes of a stack over a store, and of a vector that is subscripted by positions.
-use Rattle.std.specs.Prelude.{◌≡◌, ℕ, ◌+◌, ◌^◌, ◌<◌, ◌≤◌, ℤ, ◌-ℤ◌, unsigned_abs, List, [], ◌∷◌}
+use Rattle.std.specs.Prelude.{◌≡◌, ℕ, ◌+◌, ◌^◌, ◌<◌, ◌≤◌, ℤ, ◌-ℤ◌, unsigned_abs, List, [], ◌∷◌, Some}
 use Rattle.array_store.specs.Stores.{StoreView, holders_of}
 use Rattle.array_store.specs.Follows.{LeafCounts}
+use Rattle.drag_along.specs.declared.leaves.Leaf.{Leaf}
 use Rattle.drag_along.specs.Segments.{SegmentView}
 use Rattle.drag_along.specs.Meaning.{Meaning, entry}
 use Rattle.drag_along.specs.Lawful.{IsLawful}
+use Rattle.drag_along.specs.Views.{only_leaf}
 use Rattle.value_stack.specs.Stacks.{named_on, entries, Reads, IsLeast, IsLawfulStack, IsHeldBy}
 use Rattle.beating.specs.declared.runs.Run.{Run}
 use Rattle.beating.specs.declared.selections.Selection.{Selection}
@@ -28,6 +30,10 @@ pub record Becomes (old new : StoreView) (before after : List SegmentView) (mean
 -- an entry reads the owner
 abbrev pub IsRead : List SegmentView → ℕ → Type 0
 IsRead stack owner = (at : ℕ) × IsLeast (Reads owner) stack 0 at
+
+-- the expression is one leaf
+abbrev pub IsOneLeaf : SegmentView → Type 0
+IsOneLeaf segment = (leaf : Leaf) × (only_leaf segment.nodes ≡ Some leaf)
 
 -- the new vector has at each place the element of the old one that the position there names: a selection that reads
 -- it is applied to what the old one meant

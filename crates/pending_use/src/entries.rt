@@ -1,16 +1,16 @@
 //! Entries that go and come on a stack, while all others stay.
 
-ghost use Rattle.std.specs.Prelude.{◌≡◌, ◌-◌, ◌↔◌, [], ◌∷◌, ◌++◌, IsTrue, length, take, IfOk, OnOk, OnErr};
+ghost use Rattle.std.specs.Prelude.{◌≡◌, ◌-◌, ◌↔◌, [], ◌∷◌, ◌++◌, IsTrue, length, take, Some, slice_get, ◌<◌, IfOk, OnOk, OnErr};
 ghost use Rattle.std.specs.List.{AllByRecursion};
 ghost use Rattle.apl_base.specs.Interval.{IsInterval};
-ghost use Rattle.array_store.specs.Follows.{Holds};
+ghost use Rattle.array_store.specs.Follows.{Follows, Holds};
 ghost use Rattle.drag_along.specs.Nodes.{leaf_shape};
-ghost use Rattle.drag_along.specs.Segments.{IsSegment, leaf_segment, side_of};
+ghost use Rattle.drag_along.specs.Segments.{SegmentView, IsSegment, leaf_segment, side_of};
 ghost use Rattle.drag_along.specs.Meaning.{Means, leaf_array, combined2, entry};
 ghost use Rattle.drag_along.specs.Lawful.{IsLawfulLeaf, IsLawful};
-ghost use Rattle.value_stack.specs.Stacks.{named_on, entries};
+ghost use Rattle.value_stack.specs.Stacks.{named_on, entries, IsSoAt, IsLawfulStack};
 ghost use Rattle.beating.specs.Folds.{Folds2};
-ghost use Rattle.pending_use.specs.Uses.{HasFewBeside, Becomes};
+ghost use Rattle.pending_use.specs.Uses.{HasFewBeside, Becomes, IsOneLeaf};
 
 use apl_base::{Dya, Interval, NoMemory, Place};
 use array_store::Store;
@@ -26,6 +26,8 @@ pub fn drop_newest(stack: &mut Stack, store: &mut Store)
     ensures dropped { stack.new ≡ take (length stack.old - 1) stack.old }
     ensures stands { Becomes store.old store.new stack.old stack.new
         (entries store.old stack.new) }
+    ensures follows { Follows store.old store.new (named_on stack.old) (named_on stack.new) }
+    ensures holds { Holds store.new (named_on stack.new) }
 {
     let Some(newest) = stack.pop() else {
         return;
@@ -60,6 +62,37 @@ pub fn push_again(
         return Err(NoMemory);
     };
     Ok(())
+}
+
+/// Where the entry at a position is one leaf, holds that leaf once more and pushes it again: whether the entry is one.
+/// The new entry means what that one means. Otherwise, and after want of memory, all is as it was.
+pub fn push_entry_again(
+    alloc: Global,
+    at: usize,
+    stack: &mut Stack,
+    store: &mut Store,
+) -> Result<bool, NoMemory>
+    requires within { at < length stack.old }
+    requires lawful { IsLawfulStack store.old stack.old }
+    requires segments { AllByRecursion IsSegment stack.old }
+    requires few { HasFewBeside store.old stack.old }
+    ensures segments { AllByRecursion IsSegment stack.new }
+    ensures exact { IfOk result (λ pushed. IsTrue pushed ↔ IsSoAt IsOneLeaf stack.old at) }
+    ensures pushed { IfOk result (λ pushed. IsTrue pushed → (segment : SegmentView)
+        → slice_get stack.old at ≡ Some segment → Becomes store.old store.new stack.old stack.new
+        (entries store.old stack.old ++ entry store.old segment ∷ [])) }
+    ensures kept { IfOk result (λ pushed. ¬ (IsTrue pushed) → stack.new ≡ stack.old) }
+    ensures unchanged { IfOk result (λ pushed. ¬ (IsTrue pushed) → store.new ≡ store.old) }
+    ensures failed { OnErr result (stack.new ≡ stack.old) }
+    ensures stays { OnErr result (Becomes store.old store.new stack.old stack.new
+        (entries store.old stack.old)) }
+{
+    let Some(leaf) = stack.entry(at).only_leaf() else {
+        return Ok(false);
+    };
+    let leaf = leaf.copy();
+    push_again(alloc, &leaf, stack, store)?;
+    Ok(true)
 }
 
 /// `A f B` as an entry that is one leaf, where the function folds: whether it does. No element is computed. A and B

@@ -1,3 +1,4 @@
 mod Charges
+mod Passing
 mod Rounds
 mod TwoOwners

@@ -64,6 +64,24 @@ pub fn held_and_let_go(store: &mut Store, owner: OwnerId)
     store.release(owner);
 }
 
+/// Takes cells in as a new owner, holds it once more, and lets go twice. No owner came, and nothing but its cells was
+/// counted. After want of memory the store is as it was.
+pub fn made_held_and_let_go(store: &mut Store, cells: Vec<Cell>) -> Result<(), NoMemory>
+    requires room { HasRoom store.old (vec_len cells) }
+    requires lawful { All IsNumber cells.items }
+    ensures came { Renews store.old store.new [] }
+    ensures costs { Costs store.old store.new 0 (vec_len cells) 0 }
+    ensures unchanged { OnErr result (store.new ≡ store.old) }
+{
+    // That the counts are numbers of 64 bits.
+    let _counts = store.counts();
+    let owner = store.make(cells, Kind::Num)?;
+    store.hold(owner);
+    store.release(owner);
+    store.release(owner);
+    Ok(())
+}
+
 /// In a store that was empty no more cells are live than those of the owners that came.
 pub fn live_is_what_came()
     ensures { LiveIsWhatCame }

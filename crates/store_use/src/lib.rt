@@ -12,7 +12,9 @@ mod came;
 #[cfg(test)]
 mod tests;
 
-pub use came::{held_and_let_go, live_is_what_came, taken_in_and_read, written_beside};
+pub use came::{
+    held_and_let_go, live_is_what_came, made_held_and_let_go, taken_in_and_read, written_beside,
+};
 
 /// Takes cells in, holds them twice and once again, writes one through the one holder, reads it back and lets
 /// go. The store ends as it began, but for what it counted.
