@@ -26,9 +26,10 @@ use Rattle.drag_along.proofs.LeafLemmas.{leaf_cells_lawful}
 use Rattle.e_machine.specs.Forced.{IsNewLeaf, named_by_answer}
 use Rattle.e_machine.proofs.WholeLemmas.{stands-made}
 use Rattle.apl_model.specs.Whole.{Answer}
+use Rattle.leaf_names.specs.Variables.{array_of}
 use Rattle.made_leaf.specs.declared.faults.MadeFault.{MadeFault}
 use Rattle.made_leaf.specs.declared.faults.MadeFault.TheVariants as made
-use Rattle.made_leaf.specs.Made.{Fetched, AsksFor, IsAnswered, IsErrorOf, IsNoMemory, IsMadeAsking, IsMadeBy, IsRoomFault, array_of}
+use Rattle.made_leaf.specs.Made.{Fetched, AsksFor, IsAnswered, IsErrorOf, IsNoMemory, IsMadeAsking, IsMadeBy, IsRoomFault}
 use Rattle.made_leaf.specs.Laws.{OnlyMade}
 
 -- ---- lists

@@ -14,7 +14,8 @@ use Rattle.drag_along.specs.Views.{StandsForArray}
 use Rattle.e_machine.specs.Forced.{IsNewLeaf, named_by_answer}
 use Rattle.apl_model.specs.Whole.{Answer}
 use Rattle.made_leaf.specs.declared.faults.MadeFault.{MadeFault}
-use Rattle.made_leaf.specs.Made.{IsMadeBy, Fetched, array_of}
+use Rattle.leaf_names.specs.Variables.{array_of}
+use Rattle.made_leaf.specs.Made.{IsMadeBy, Fetched}
 
 -- whatever is answered, nothing was done with the store but to count and to make the owner of the leaf
 abbrev pub OnlyMade : StoreView → StoreView → Result Leaf MadeFault → Type 0

@@ -7,16 +7,10 @@ use Rattle.array_store.specs.Counting.{OnlyFetched}
 use Rattle.array_store.specs.declared.ids.BeginFault.{BeginFault}
 use Rattle.array_store.specs.declared.ids.BeginFault.TheVariants as begin
 use Rattle.drag_along.specs.declared.leaves.Leaf.{Leaf}
-use Rattle.drag_along.specs.Nodes.{leaf_shape}
-use Rattle.drag_along.specs.Meaning.{leaf_array}
 use Rattle.e_machine.specs.Forced.{IsNewLeaf}
 use Rattle.apl_model.specs.Whole.{Answer}
 use Rattle.made_leaf.specs.declared.faults.MadeFault.{MadeFault}
 use Rattle.made_leaf.specs.declared.faults.MadeFault.TheVariants as made
-
--- the array that a leaf stands for over a store
-abbrev pub array_of : StoreView → Leaf → Array
-array_of store leaf = leaf_array store (leaf_shape leaf) leaf
 
 -- the store only fetched, at most so many cells
 abbrev pub Fetched : StoreView → ℕ → StoreView → Type 0

@@ -10,7 +10,7 @@ ghost use Rattle.drag_along.specs.Lawful.{IsLawfulLeaf};
 ghost use Rattle.e_machine.specs.Rows.{numbers_along, row_cells, CanRead};
 ghost use Rattle.e_machine.specs.Forced.{AreRead, cells_from};
 ghost use Rattle.apl_model.specs.Whole.{first};
-ghost use Rattle.made_leaf.specs.Made.{array_of};
+ghost use Rattle.leaf_names.specs.Variables.{array_of};
 
 use apl_base::{Cell, NoMemory};
 use array_desc::{Row, RowWalk};
