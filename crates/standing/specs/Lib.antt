@@ -1,2 +1,3 @@
 pub mod Stand
 pub mod Laws
+pub mod Growing

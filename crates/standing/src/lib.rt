@@ -2,6 +2,8 @@
 //! its contract is a law.
 #![tactic(auto)]
 
+mod growing;
 mod laws;
 
+pub use growing::code_grows;
 pub use laws::{instructions_stand, joins_stand, stands_are_lists};
