@@ -1,0 +1,36 @@
+-- What holds of ranged evaluation. Each law is the contract of a function in src/laws.
+use Rattle.std.specs.Prelude.{◌≡◌, ℕ, List, map}
+use Rattle.apl_model.specs.Agreement.{mapped_outcome, mapped_flow, mapped_run, CallsAgree}
+use Rattle.apl_model.specs.Call.{call_within}
+use Rattle.apl_model.specs.Evaluation.{Calls, value_of, statement_flow}
+use Rattle.apl_model.specs.Immediate.{of_states, run_items, routine, told, immediate}
+use Rattle.apl_model.specs.Order.{CallsOf, value_in}
+use Rattle.apl_model.specs.Tree.{Definition, Item, Script, Statement, Tree}
+use Rattle.apl_cost.specs.Ranges.{RangedArray, array_of}
+use Rattle.apl_cost.specs.RangedEvaluation.{RangedState, forgotten, of_ranged, of_ranged_states, ranged_flow, ranged_items}
+
+-- ---- forgetting the intervals gives evaluation: the same value or error, its place, and the state that is left
+
+-- of expressions, where it does of calls
+abbrev pub ExpressionsForget : Type 0
+ExpressionsForget = (calls : Calls) (ranged_calls : CallsOf RangedState RangedArray) → CallsAgree forgotten array_of ranged_calls calls →
+    (t : Tree) (s : RangedState) → value_of calls t (forgotten s) ≡ mapped_outcome forgotten array_of (value_in (of_ranged ranged_calls) t s)
+
+-- of statements
+abbrev pub StatementsForget : Type 0
+StatementsForget = (calls : Calls) (ranged_calls : CallsOf RangedState RangedArray) → CallsAgree forgotten array_of ranged_calls calls →
+    (t : Statement) (s : RangedState) → statement_flow calls t (forgotten s) ≡ mapped_flow forgotten (ranged_flow ranged_calls t s)
+
+-- of the calls of functions, however many more may be pending
+abbrev pub CallsForget : Type 0
+CallsForget = (definitions : List Definition) (n : ℕ) → CallsAgree forgotten array_of
+    (call_within of_ranged_states ranged_flow (map routine definitions) n)
+    (call_within of_states statement_flow (map routine definitions) n)
+
+-- of runs
+abbrev pub RunsForget : Type 0
+RunsForget = (script : Script) (items : List Item) (n : ℕ) → run_items script items n ≡ mapped_run forgotten (ranged_items script items n)
+
+-- and of the whole: what a script prints, how it ends, and what it leaves
+abbrev pub ImmediateForgets : Type 0
+ImmediateForgets = (script : Script) (n : ℕ) → immediate script n ≡ told (mapped_run forgotten (ranged_items script script.items n))

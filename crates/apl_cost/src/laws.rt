@@ -1,0 +1,12 @@
+//! The laws of ranged evaluation: each function does nothing, and its contract is the law.
+
+ghost use Rattle.apl_cost.specs.Laws.{ExpressionsForget, StatementsForget, CallsForget, RunsForget, ImmediateForgets};
+
+/// Ranged evaluation comes to what evaluation comes to, once the intervals are forgotten.
+pub fn forgetting_gives_evaluation()
+    ensures expressions { ExpressionsForget }
+    ensures statements { StatementsForget }
+    ensures calls { CallsForget }
+    ensures runs { RunsForget }
+    ensures immediate { ImmediateForgets }
+{}
