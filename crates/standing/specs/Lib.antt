@@ -1,3 +1,4 @@
 pub mod Stand
 pub mod Laws
 pub mod Growing
+pub mod Statements

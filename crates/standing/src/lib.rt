@@ -4,6 +4,8 @@
 
 mod growing;
 mod laws;
+mod statements;
 
 pub use growing::code_grows;
 pub use laws::{instructions_stand, joins_stand, stands_are_lists};
+pub use statements::statements_have_codes;

@@ -1,0 +1,9 @@
+//! The statements of a script, by their codes.
+
+ghost use Rattle.standing.specs.Statements.{StatementHasCode, EvaluatedByCode};
+
+/// A statement outside definitions has the code of its number, and its code comes to what its evaluation comes to.
+pub fn statements_have_codes()
+    ensures code { StatementHasCode }
+    ensures same { EvaluatedByCode }
+{}
