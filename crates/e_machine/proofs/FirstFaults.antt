@@ -1,15 +1,15 @@
--- The search for the first fault over all indices, and the cells where there is none.
-use Rattle.std.proofs.Common.{◌≡◌, ℕ, zero, suc, ◌+◌, ◌*◌, ◌<◌, ◌≤◌, ℤ, pos, Bool, false, IsTrue, All, List, [], ◌∷◌, ◌++◌, length, get_or, drop, Option, Some, None, unwrap_or, refl, sym, ap, ◌∙◌, subst, arith, inl, inr}
+-- The search for the first fault over all places, and the cells where there is none.
+use Rattle.std.proofs.Common.{◌≡◌, ℕ, zero, suc, ◌+◌, ◌-◌, ◌*◌, ◌<◌, ◌≤◌, ℤ, pos, Bool, false, IsTrue, All, List, [], ◌∷◌, ◌++◌, length, Option, Some, None, unwrap_or, refl, sym, ap, ◌∙◌, subst, arith, inl, inr, length-append}
 use Rattle.std.proofs.Math.Nat.{mul-le-mul_right}
-use Rattle.std.proofs.Math.Seq.{get_or-append_seam}
 use Rattle.std.proofs.lemmas.Bool.{cases_lt}
-use Rattle.std.proofs.lemmas.List.{get_or_append_left, length_push}
-use Rattle.std.proofs.lemmas.List.Elements.{All-push}
+use Rattle.std.proofs.lemmas.List.{get_or_append_left, get_or-append-add}
+use Rattle.std.proofs.lemmas.List.Elements.{All-append}
 use Rattle.apl_base.specs.declared.cells.Kind.TheVariants.{Num}
 use Rattle.apl_base.specs.declared.cells.Elem.{Elem}
-use Rattle.apl_base.specs.Array.{IsIndex, size_of, index_at, place_at}
+use Rattle.apl_base.specs.Array.{size_of, index_at, place_at}
+use Rattle.apl_base.specs.Elements.{element}
 use Rattle.apl_base.specs.Number.{IsCell}
-use Rattle.apl_base.proofs.Sizes.{index_at-place_at, place_at-below}
+use Rattle.apl_base.proofs.Sizes.{IsIndex-index_at, index_at-place_at, place_at-below}
 use Rattle.array_store.specs.Stores.{StoreView, AreCounts}
 use Rattle.array_store.specs.Counting.{OnlyComputed, ComputedJust}
 use Rattle.array_store.proofs.CountingLemmas.{OnlyComputed-none, OnlyComputed-then, OnlyComputed-more, ComputedJust-none, ComputedJust-then}
@@ -19,20 +19,19 @@ use Rattle.drag_along.specs.Nodes.{functions_in, stored_in, kind_of_nodes}
 use Rattle.drag_along.specs.Segments.{SegmentView, IsSegment}
 use Rattle.drag_along.specs.Meaning.{value_at, values_at, fails_at, Fails, IsFirstFault}
 use Rattle.drag_along.specs.Views.{only_leaf}
-use Rattle.iter_stack.specs.Indices.{walk}
-use Rattle.iter_stack.proofs.Walks.{Next, walk-next, walk-all}
+use Rattle.scalar_table.specs.Columns.{cell_in, element_in}
 use Rattle.e_machine.specs.Forced.{applications, fetches}
-use Rattle.e_machine.specs.Runs.{defined, FailsFirst, GainsCell, Passes, IsVisit, HasElements}
+use Rattle.e_machine.specs.Runs.{defined, fails_in, values_in, GainsCells, PassesAll, FailsBefore, IsVisit, HasElements}
 use Rattle.e_machine.proofs.FirstNodes.{values_counted, fails_counted}
 
 -- after p places: the nodes before `first` fail at none of them, `first` fails somewhere if it is not the number of
 -- all nodes, and where it is, these are the cells so far
 pub record Searched (s now : StoreView) (g : SegmentView) (p first : ℕ) (cells : List ℤ) : Type 0 where
   pub few : first ≤ length g.nodes
-  pub clear : (q : ℕ) → q < p → (j : ℕ) → j < first → fails_at s (index_at g.shape q) g.nodes j [] ≡ false
+  pub clear : (q : ℕ) → q < p → (j : ℕ) → j < first → fails_in s g q j ≡ false
   pub found : first < length g.nodes → Fails s g first
   pub count : first ≡ length g.nodes → length cells ≡ p
-  pub values : first ≡ length g.nodes → (q : ℕ) → q < p → values_at s (index_at g.shape q) g.nodes [] ≡ defined (record { kind = Num; cell = get_or cells q (pos 0) } ∷ [])
+  pub values : first ≡ length g.nodes → (q : ℕ) → q < p → values_in s g q ≡ defined (element_in Num cells q ∷ [])
   pub lawful : first ≡ length g.nodes → All (IsCell Num) cells
   pub cost : OnlyComputed s now (p * functions_in g.nodes) (p * stored_in g.nodes)
   pub exact : first ≡ length g.nodes → ComputedJust s now (p * functions_in g.nodes) (p * stored_in g.nodes)
@@ -44,11 +43,11 @@ just_none s f m small =
     let zero_m : 0 ≡ 0 * m = omega arith in
     subst (λ (n : ℕ). ComputedJust s s n (0 * m)) zero_f (subst (λ (n : ℕ). ComputedJust s s 0 n) zero_m (ComputedJust-none s small))
 
-pub search_starts : (s : StoreView) (g : SegmentView) (cells : List ℤ) → AreCounts s.counts → cells ≡ [] → Searched s s g 0 (length g.nodes) cells
-search_starts s g cells small empty = record {
-  few = omega arith;
+pub search_starts : (s : StoreView) (g : SegmentView) (first : ℕ) (cells : List ℤ) → AreCounts s.counts → first ≡ length g.nodes → cells ≡ [] → Searched s s g 0 first cells
+search_starts s g first cells small all empty = record {
+  few = omega (arith, all);
   clear = λ q h. absurd (omega (arith, h));
-  found = λ h. absurd (omega (arith, h));
+  found = λ h. absurd (omega (arith, h, all));
   count = λ h. ap length empty;
   values = λ h q below. absurd (omega (arith, below));
   lawful = λ h k d less. absurd (omega (arith, less, ap length empty));
@@ -56,121 +55,93 @@ search_starts s g cells small empty = record {
   exact = λ h. just_none s (functions_in g.nodes) (stored_in g.nodes) small;
 }
 
--- one more place costs at most what all nodes cost
-cost_next : (s now next : StoreView) (p f m : ℕ) → OnlyComputed s now (p * f) (p * m) → OnlyComputed now next f m → OnlyComputed s next ((p + 1) * f) ((p + 1) * m)
-cost_next s now next p f m found one =
-    OnlyComputed-more s next (p * f + f) ((p + 1) * f) (p * m + m) ((p + 1) * m) (omega arith) (omega arith)
-    (OnlyComputed-then s now next (p * f) f (p * m) m found one)
+-- n places more cost at most what all nodes cost there
+cost_next : (s now next : StoreView) (p n f m : ℕ) → OnlyComputed s now (p * f) (p * m) → OnlyComputed now next (n * f) (n * m) → OnlyComputed s next ((p + n) * f) ((p + n) * m)
+cost_next s now next p n f m found one =
+    OnlyComputed-more s next (p * f + n * f) ((p + n) * f) (p * m + n * m) ((p + n) * m) (omega arith) (omega arith)
+    (OnlyComputed-then s now next (p * f) (n * f) (p * m) (n * m) found one)
 
-just_next : (s now next : StoreView) (p f m : ℕ) → ComputedJust s now (p * f) (p * m) → ComputedJust now next f m → ComputedJust s next ((p + 1) * f) ((p + 1) * m)
-just_next s now next p f m found one =
-    let more_f : p * f + f ≡ (p + 1) * f = omega arith in
-    let more_m : p * m + m ≡ (p + 1) * m = omega arith in
-    subst (λ (n : ℕ). ComputedJust s next n ((p + 1) * m)) more_f
-    (subst (λ (n : ℕ). ComputedJust s next (p * f + f) n) more_m (ComputedJust-then s now next (p * f) f (p * m) m found one))
+just_next : (s now next : StoreView) (p n f m : ℕ) → ComputedJust s now (p * f) (p * m) → ComputedJust now next (n * f) (n * m) → ComputedJust s next ((p + n) * f) ((p + n) * m)
+just_next s now next p n f m found one =
+    let more_f : p * f + n * f ≡ (p + n) * f = omega arith in
+    let more_m : p * m + n * m ≡ (p + n) * m = omega arith in
+    subst (λ (k : ℕ). ComputedJust s next k ((p + n) * m)) more_f
+    (subst (λ (k : ℕ). ComputedJust s next (p * f + n * f) k) more_m (ComputedJust-then s now next (p * f) (n * f) (p * m) (n * m) found one))
 
--- what holds at the places before and at this index holds at one place more
-clear_next : (s : StoreView) (g : SegmentView) (p k : ℕ) (i : List ℕ) → i ≡ index_at g.shape p → ((q : ℕ) → q < p → (j : ℕ) → j < k → fails_at s (index_at g.shape q) g.nodes j [] ≡ false) → ((j : ℕ) → j < k → fails_at s i g.nodes j [] ≡ false) → (q : ℕ) → q < p + 1 → (j : ℕ) → j < k → fails_at s (index_at g.shape q) g.nodes j [] ≡ false
-clear_next s g p k i is old here q below j h = elim (cases_lt q p) [
-  | inl early ↦ old q early j h
-  | inr late ↦
-      let at : index_at g.shape q ≡ i = ap (index_at g.shape) (let e : q ≡ p = omega (arith, below, late) in e) ∙ sym is in
-      ap (λ (x : List ℕ). fails_at s x g.nodes j []) at ∙ here j h
+-- what holds at the places before and at n more holds at all of them
+places_next : (P : ℕ → Type 0) (p n : ℕ) → ((q : ℕ) → q < p → P q) → ((q : ℕ) → q < n → P (p + q)) → (q : ℕ) → q < p + n → P q
+places_next P p n old here q below = elim (cases_lt q p) [
+  | inl early ↦ old q early
+  | inr late ↦ subst P (let e : p + (q - p) ≡ q = omega (arith, late) in e) (here (q - p) (omega (arith, below, late)))
 ]
 
--- node k fails at the next place, which none before it does
-search_fails : (s now next : StoreView) (g : SegmentView) (p first k : ℕ) (cells after : List ℤ) (i : List ℕ) → Searched s now g p first cells → i ≡ index_at g.shape p → IsIndex g.shape i → k < first → FailsFirst now i g.nodes k → OnlyComputed now next (functions_in g.nodes) (stored_in g.nodes) → Searched s next g (p + 1) k after
-search_fails s now next g p first k cells after i found is index less fault cost =
-    let same : (j : ℕ) → fails_at now i g.nodes j [] ≡ fails_at s i g.nodes j [] = λ j. fails_counted s now i g.nodes j [] found.cost.only in
-    let most : first ≤ length g.nodes = found.few in
+-- node k fails at one of the next places, where none before it does at any
+search_fails : (s now next : StoreView) (g : SegmentView) (p n first k : ℕ) (cells after : List ℤ) → Searched s now g p first cells → p + n ≤ size_of g.shape → FailsBefore now g first p n k → OnlyComputed now next (n * functions_in g.nodes) (n * stored_in g.nodes) → Searched s next g (p + n) k after
+search_fails s now next g p n first k cells after found within fault cost =
+    let same : (q j : ℕ) → fails_in now g q j ≡ fails_in s g q j = λ q j. fails_counted s now (index_at g.shape q) g.nodes j [] found.cost.only in
+    let less : k < length g.nodes = omega (arith, found.few, fault.below) in
     record {
-      few = omega arith;
-      clear = clear_next s g p k i is (λ q early j h. found.clear q early j (omega (arith, h, less))) (λ j h. sym (same j) ∙ fault.before j h);
-      found = λ h. (i, index, sym (same k) ∙ fault.fails);
-      count = λ h. absurd (omega (arith, h));
-      values = λ h. absurd (omega (arith, h));
-      lawful = λ h. absurd (omega (arith, h));
-      cost = cost_next s now next p (functions_in g.nodes) (stored_in g.nodes) found.cost cost;
-      exact = λ h. absurd (omega (arith, h));
+      few = omega (arith, less);
+      clear = places_next (λ q. (j : ℕ) → j < k → fails_in s g q j ≡ false) p n (λ q early j h. found.clear q early j (omega (arith, h, fault.below))) (λ q h j before. sym (same (p + q) j) ∙ fault.none q h j before);
+      found = λ h. (
+        index_at g.shape (p + fault.place),
+        IsIndex-index_at g.shape (p + fault.place) (omega (arith, within, fault.within)),
+        sym (same (p + fault.place) k) ∙ fault.fails,
+      );
+      count = λ h. absurd (omega (arith, h, less));
+      values = λ h. absurd (omega (arith, h, less));
+      lawful = λ h. absurd (omega (arith, h, less));
+      cost = cost_next s now next p n (functions_in g.nodes) (stored_in g.nodes) found.cost cost;
+      exact = λ h. absurd (omega (arith, h, less));
     }
 
 -- where a node has failed before, the cells are given up
-search_passes : (s now next : StoreView) (g : SegmentView) (p first : ℕ) (cells after : List ℤ) (i : List ℕ) → Searched s now g p first cells → i ≡ index_at g.shape p → first < length g.nodes → Passes now next i g.nodes first cells after → OnlyComputed now next (functions_in g.nodes) (stored_in g.nodes) → Searched s next g (p + 1) first after
-search_passes s now next g p first cells after i found is some pass cost = record {
+search_passes : (s now next : StoreView) (g : SegmentView) (p n first : ℕ) (cells after : List ℤ) → Searched s now g p first cells → first < length g.nodes → PassesAll now next g first p n cells after → OnlyComputed now next (n * functions_in g.nodes) (n * stored_in g.nodes) → Searched s next g (p + n) first after
+search_passes s now next g p n first cells after found some pass cost = record {
   few = found.few;
-  clear = clear_next s g p first i is found.clear (λ j h. sym (fails_counted s now i g.nodes j [] found.cost.only) ∙ pass.none j h);
+  clear = places_next (λ q. (j : ℕ) → j < first → fails_in s g q j ≡ false) p n found.clear (λ q h j before. sym (fails_counted s now (index_at g.shape (p + q)) g.nodes j [] found.cost.only) ∙ pass.none q h j before);
   found = found.found;
   count = λ h. absurd (omega (arith, h, some));
   values = λ h. absurd (omega (arith, h, some));
   lawful = λ h. absurd (omega (arith, h, some));
-  cost = cost_next s now next p (functions_in g.nodes) (stored_in g.nodes) found.cost cost;
+  cost = cost_next s now next p n (functions_in g.nodes) (stored_in g.nodes) found.cost cost;
   exact = λ h. absurd (omega (arith, h, some));
 }
 
--- one more cell
-values_next : (s : StoreView) (g : SegmentView) (p : ℕ) (cells : List ℤ) (cell : ℤ) (i : List ℕ) → i ≡ index_at g.shape p → length cells ≡ p → ((q : ℕ) → q < p → values_at s (index_at g.shape q) g.nodes [] ≡ defined (record { kind = Num; cell = get_or cells q (pos 0) } ∷ [])) → values_at s i g.nodes [] ≡ defined (record { kind = Num; cell = cell } ∷ []) → (q : ℕ) → q < p + 1 → values_at s (index_at g.shape q) g.nodes [] ≡ defined (record { kind = Num; cell = get_or (cells ++ cell ∷ []) q (pos 0) } ∷ [])
-values_next s g p cells cell i is many old here q below =
-    let one : ℤ → List (Option Elem) = λ c. defined (record { kind = Num; cell = c } ∷ []) in
-    elim (cases_lt q p) [
-      | inl early ↦ old q early ∙ ap one (sym (get_or_append_left cells (cell ∷ []) (pos 0) q (omega (arith, early, many))))
-      | inr late ↦
-          let at : index_at g.shape q ≡ i = ap (index_at g.shape) (let f : q ≡ p = omega (arith, below, late) in f) ∙ sym is in
-          let last : q ≡ length cells = omega (arith, below, late, many) in
-          let read : get_or (cells ++ cell ∷ []) q (pos 0) ≡ cell = ap (λ (n : ℕ). get_or (cells ++ cell ∷ []) n (pos 0)) last ∙ get_or-append_seam cells cell [] (pos 0) in
-          ap (λ (x : List ℕ). values_at s x g.nodes []) at ∙ here ∙ ap one (sym read)
-    ]
+-- the cells of n places more
+values_next : (s : StoreView) (g : SegmentView) (p n : ℕ) (cells column : List ℤ) → length cells ≡ p → ((q : ℕ) → q < p → values_in s g q ≡ defined (element_in Num cells q ∷ [])) → ((q : ℕ) → q < n → values_in s g (p + q) ≡ defined (element_in Num column q ∷ [])) → (q : ℕ) → q < p + n → values_in s g q ≡ defined (element_in Num (cells ++ column) q ∷ [])
+values_next s g p n cells column many old here =
+    let one : ℤ → List (Option Elem) = λ c. defined (element Num c ∷ []) in
+    let late : (q : ℕ) → cell_in (cells ++ column) (p + q) ≡ cell_in column q =
+    λ q. ap (λ (m : ℕ). cell_in (cells ++ column) (m + q)) (sym many) ∙ get_or-append-add cells column q (pos 0) in
+    places_next (λ q. values_in s g q ≡ defined (element_in Num (cells ++ column) q ∷ [])) p n
+    (λ q h. old q h ∙ ap one (sym (get_or_append_left cells column (pos 0) q (omega (arith, h, many)))))
+    (λ q h. here q h ∙ ap one (sym (late q)))
 
-search_gains : (s now next : StoreView) (g : SegmentView) (p first : ℕ) (cells : List ℤ) (i : List ℕ) (cell : ℤ) → Searched s now g p first cells → i ≡ index_at g.shape p → first ≡ length g.nodes → ((j : ℕ) → j < first → fails_at now i g.nodes j [] ≡ false) → IsCell Num cell → values_at now i g.nodes [] ≡ defined (record { kind = Num; cell = cell } ∷ []) → ComputedJust now next (functions_in g.nodes) (stored_in g.nodes) → OnlyComputed now next (functions_in g.nodes) (stored_in g.nodes) → Searched s next g (p + 1) first (cells ++ cell ∷ [])
-search_gains s now next g p first cells i cell found is whole none lawful value just cost = record {
+search_gains : (s now next : StoreView) (g : SegmentView) (p n first : ℕ) (cells column : List ℤ) → Searched s now g p first cells → first ≡ length g.nodes → ((q : ℕ) → q < n → (j : ℕ) → j < first → fails_in now g (p + q) j ≡ false) → length column ≡ n → All (IsCell Num) column → ((q : ℕ) → q < n → values_in now g (p + q) ≡ defined (element_in Num column q ∷ [])) → ComputedJust now next (n * functions_in g.nodes) (n * stored_in g.nodes) → OnlyComputed now next (n * functions_in g.nodes) (n * stored_in g.nodes) → Searched s next g (p + n) first (cells ++ column)
+search_gains s now next g p n first cells column found whole none many lawful leaves just cost = record {
   few = found.few;
-  clear = clear_next s g p first i is found.clear (λ j h. sym (fails_counted s now i g.nodes j [] found.cost.only) ∙ none j h);
+  clear = places_next (λ q. (j : ℕ) → j < first → fails_in s g q j ≡ false) p n found.clear (λ q h j before. sym (fails_counted s now (index_at g.shape (p + q)) g.nodes j [] found.cost.only) ∙ none q h j before);
   found = found.found;
-  count = λ h. omega (arith, length_push cells cell, found.count whole);
-  values = λ h. values_next s g p cells cell i is (found.count whole) (found.values whole) (sym (values_counted s now i g.nodes [] found.cost.only) ∙ value);
-  lawful = λ h. All-push (IsCell Num) cells cell (found.lawful whole) lawful;
-  cost = cost_next s now next p (functions_in g.nodes) (stored_in g.nodes) found.cost cost;
-  exact = λ h. just_next s now next p (functions_in g.nodes) (stored_in g.nodes) (found.exact h) just;
+  count = λ h. omega (arith, length-append cells column, found.count whole, many);
+  values = λ h. values_next s g p n cells column (found.count whole) (found.values whole) (λ q below. sym (values_counted s now (index_at g.shape (p + q)) g.nodes [] found.cost.only) ∙ leaves q below);
+  lawful = λ h. All-append (IsCell Num) cells column (found.lawful whole) lawful;
+  cost = cost_next s now next p n (functions_in g.nodes) (stored_in g.nodes) found.cost cost;
+  exact = λ h. just_next s now next p n (functions_in g.nodes) (stored_in g.nodes) (found.exact h) just;
 }
 
--- what the loop over the indices keeps: a place has been reached, and what is left is the walk from there
-pub record Reached (s now : StoreView) (g : SegmentView) (left : List (List ℕ)) (first : ℕ) (cells : List ℤ) : Type 0 where
-  pub place : ℕ
-  pub within : place ≤ size_of g.shape
-  pub rest : left ≡ drop place (walk false g.shape)
-  pub searched : Searched s now g place first cells
-
-pub reach_starts : (s : StoreView) (g : SegmentView) (left : List (List ℕ)) (cells : List ℤ) → AreCounts s.counts → left ≡ walk false g.shape → cells ≡ [] → Reached s s g left (length g.nodes) cells
-reach_starts s g left cells small all empty = record { place = 0; within = omega arith; rest = all; searched = search_starts s g cells small empty }
-
--- the index that comes next is one of the segment's
-pub reach_index : (s now : StoreView) (g : SegmentView) (left rest : List (List ℕ)) (first : ℕ) (cells : List ℤ) (i : List ℕ) → Reached s now g left first cells → left ≡ i ∷ rest → IsIndex g.shape i
-reach_index s now g left rest first cells i found comes =
-    let next : Next false g.shape found.place i rest = walk-next false g.shape found.place i rest (sym found.rest ∙ comes) in next.lawful
-
-pub reach_next : (s now next : StoreView) (g : SegmentView) (left rest : List (List ℕ)) (first : ℕ) (cells after : List ℤ) (i : List ℕ) (o : Option ℕ) → Reached s now g left first cells → left ≡ i ∷ rest → IsVisit now next i g.nodes first cells after o → OnlyComputed now next (functions_in g.nodes) (stored_in g.nodes) → Reached s next g rest (unwrap_or o first) after
-reach_next s now next g left rest first cells after i (Some k) found comes visit cost =
-    let turn : Next false g.shape found.place i rest = walk-next false g.shape found.place i rest (sym found.rest ∙ comes) in
-    record {
-      place = found.place + 1;
-      within = omega (arith, turn.below);
-      rest = turn.rest;
-      searched = search_fails s now next g found.place first k cells after i found.searched turn.is turn.lawful visit.0 visit.1 cost;
-    }
-reach_next s now next g left rest first cells after i None found comes visit cost =
-    let turn : Next false g.shape found.place i rest = walk-next false g.shape found.place i rest (sym found.rest ∙ comes) in
-    record {
-      place = found.place + 1;
-      within = omega (arith, turn.below);
-      rest = turn.rest;
-      searched = elim (cases_lt first (length g.nodes)) [
-        | inl some ↦ search_passes s now next g found.place first cells after i found.searched turn.is some visit cost
-        | inr most ↦
-            let whole : first ≡ length g.nodes = omega (arith, most, found.searched.few) in
-            let gain : GainsCell now next i g.nodes cells after = visit.all whole in
-            subst (λ (cs : List ℤ). Searched s next g (found.place + 1) first cs) (sym gain.gained)
-            (search_gains s now next g found.place first cells i gain.cell found.searched turn.is whole visit.none gain.lawful gain.leaves gain.just cost)
-      ];
-    }
+-- a block more
+pub search_next : (s now next : StoreView) (g : SegmentView) (p n first : ℕ) (cells after : List ℤ) (o : Option ℕ) → Searched s now g p first cells → p + n ≤ size_of g.shape → IsVisit now next g first p n cells after o → OnlyComputed now next (n * functions_in g.nodes) (n * stored_in g.nodes) → Searched s next g (p + n) (unwrap_or o first) after
+search_next s now next g p n first cells after (Some k) found within visit cost =
+    search_fails s now next g p n first k cells after found within visit cost
+search_next s now next g p n first cells after None found within visit cost = elim (cases_lt first (length g.nodes)) [
+  | inl some ↦ search_passes s now next g p n first cells after found some visit cost
+  | inr most ↦
+      let whole : first ≡ length g.nodes = omega (arith, most, found.few) in
+      let gain : GainsCells now next g p n cells after = visit.all whole in
+      subst (λ (cs : List ℤ). Searched s next g (p + n) first cs) (sym gain.gained)
+      (search_gains s now next g p n first cells gain.column found whole visit.none gain.count gain.lawful gain.leaves gain.just cost)
+]
 
 -- ---- at the end
 
@@ -182,10 +153,6 @@ no_node s i (x ∷ xs) (suc k) st h = no_node s i xs k (value_at s i x st) (omeg
 apart : (b : Bool) → IsTrue b → b ≡ false → ⊥
 apart b t f = absurd (cc)
 
--- all places have been searched
-all_places : (s now : StoreView) (g : SegmentView) (left : List (List ℕ)) (first : ℕ) (cells : List ℤ) (found : Reached s now g left first cells) → left ≡ [] → size_of g.shape ≤ found.place
-all_places s now g left first cells found none = walk-all false g.shape found.place (sym found.rest ∙ none)
-
 -- no node before `first` fails at any index
 none_before : (s now : StoreView) (g : SegmentView) (p first : ℕ) (cells : List ℤ) → Searched s now g p first cells → size_of g.shape ≤ p → (j : ℕ) → j < first → Fails s g j → ⊥
 none_before s now g p first cells found all j h fails =
@@ -194,10 +161,10 @@ none_before s now g p first cells found all j h fails =
     apart (fails_at s i g.nodes j []) fails.2
     (ap (λ (x : List ℕ). fails_at s x g.nodes j []) (sym (index_at-place_at g.shape i fails.1)) ∙ found.clear (place_at g.shape i) (omega (arith, below, all)) j h)
 
-pub reach_finds : (s now : StoreView) (g : SegmentView) (left : List (List ℕ)) (first : ℕ) (cells : List ℤ) → Reached s now g left first cells → left ≡ [] → first < length g.nodes → IsFirstFault s g first
-reach_finds s now g left first cells found none some = record {
-  fails = found.searched.found some;
-  least = λ j h. none_before s now g found.place first cells found.searched (all_places s now g left first cells found none) j h;
+pub search_finds : (s now : StoreView) (g : SegmentView) (p first : ℕ) (cells : List ℤ) → Searched s now g p first cells → size_of g.shape ≤ p → first < length g.nodes → IsFirstFault s g first
+search_finds s now g p first cells found all some = record {
+  fails = found.found some;
+  least = λ j h. none_before s now g p first cells found all j h;
 }
 
 many_kind : (xs : List Node) → only_leaf xs ≡ None → kind_of_nodes xs ≡ Num
@@ -227,10 +194,9 @@ computes s now g p first cells seg many found all whole =
       just = subst (λ (n : ℕ). ComputedJust s now (n * functions_in g.nodes) (n * stored_in g.nodes)) all (found.exact whole);
     }
 
-pub reach_computes : (s now : StoreView) (g : SegmentView) (left : List (List ℕ)) (first : ℕ) (cells : List ℤ) → IsSegment g → only_leaf g.nodes ≡ None → Reached s now g left first cells → left ≡ [] → length g.nodes ≤ first → HasElements s now g cells
-reach_computes s now g left first cells seg many found none past =
-    let all : size_of g.shape ≤ found.place = all_places s now g left first cells found none in
-    computes s now g found.place first cells seg many found.searched (omega (arith, all, found.within)) (omega (arith, found.searched.few, past))
+pub search_computes : (s now : StoreView) (g : SegmentView) (p first : ℕ) (cells : List ℤ) → IsSegment g → only_leaf g.nodes ≡ None → Searched s now g p first cells → p ≤ size_of g.shape → size_of g.shape ≤ p → length g.nodes ≤ first → HasElements s now g cells
+search_computes s now g p first cells seg many found within all past =
+    computes s now g p first cells seg many found (omega (arith, all, within)) (omega (arith, found.few, past))
 
 -- ---- on the way
 
@@ -238,12 +204,11 @@ upto : (s now : StoreView) (p n f m : ℕ) → p ≤ n → OnlyComputed s now (p
 upto s now p n f m h cost = OnlyComputed-more s now (p * f) (n * f) (p * m) (n * m) (mul-le-mul_right f h) (mul-le-mul_right m h) cost
 
 -- so far no more was done than over all places
-pub reach_costs : (s now : StoreView) (g : SegmentView) (left : List (List ℕ)) (first : ℕ) (cells : List ℤ) → Reached s now g left first cells → OnlyComputed s now (applications g) (fetches g)
-reach_costs s now g left first cells found = upto s now found.place (size_of g.shape) (functions_in g.nodes) (stored_in g.nodes) found.within found.searched.cost
+pub search_costs : (s now : StoreView) (g : SegmentView) (p first : ℕ) (cells : List ℤ) → Searched s now g p first cells → p ≤ size_of g.shape → OnlyComputed s now (applications g) (fetches g)
+search_costs s now g p first cells found within = upto s now p (size_of g.shape) (functions_in g.nodes) (stored_in g.nodes) within found.cost
 
--- nor with one place more
-pub reach_costs_next : (s now next : StoreView) (g : SegmentView) (left rest : List (List ℕ)) (first : ℕ) (cells : List ℤ) (i : List ℕ) → Reached s now g left first cells → left ≡ i ∷ rest → OnlyComputed now next (functions_in g.nodes) (stored_in g.nodes) → OnlyComputed s next (applications g) (fetches g)
-reach_costs_next s now next g left rest first cells i found comes cost =
-    let turn : Next false g.shape found.place i rest = walk-next false g.shape found.place i rest (sym found.rest ∙ comes) in
-    upto s next (found.place + 1) (size_of g.shape) (functions_in g.nodes) (stored_in g.nodes) (omega (arith, turn.below))
-    (cost_next s now next found.place (functions_in g.nodes) (stored_in g.nodes) found.searched.cost cost)
+-- nor with a block more
+pub search_costs_next : (s now next : StoreView) (g : SegmentView) (p n first : ℕ) (cells : List ℤ) → Searched s now g p first cells → p + n ≤ size_of g.shape → OnlyComputed now next (n * functions_in g.nodes) (n * stored_in g.nodes) → OnlyComputed s next (applications g) (fetches g)
+search_costs_next s now next g p n first cells found within cost =
+    upto s next (p + n) (size_of g.shape) (functions_in g.nodes) (stored_in g.nodes) within
+    (cost_next s now next p n (functions_in g.nodes) (stored_in g.nodes) found.cost cost)

@@ -1,5 +1,5 @@
--- The search for the first fault over all indices, and the cells where there is none.
-use Rattle.std.proofs.Common.{◌≡◌, ℕ, zero, suc, ◌<◌, ◌≤◌, ℤ, List, [], ◌∷◌, length, take, Option, Some, None, refl, sym, ap, ◌∙◌, subst, arith}
+-- The first nodes of a segment, and what is left after all.
+use Rattle.std.proofs.Common.{◌≡◌, ℕ, zero, suc, ◌+◌, ◌<◌, ◌≤◌, ℤ, List, [], ◌∷◌, length, take, Option, Some, None, refl, sym, ap, ◌∙◌, subst, arith}
 use Rattle.std.specs.Prelude.{IsSome}
 use Rattle.std.specs.Option.{option_map, option_and_then}
 use Rattle.apl_base.specs.declared.cells.Kind.TheVariants.{Num}
@@ -7,7 +7,7 @@ use Rattle.apl_base.specs.declared.cells.Elem.{Elem}
 use Rattle.apl_base.specs.declared.rows.Mon.{Mon}
 use Rattle.apl_base.specs.declared.rows.Dya.{Dya}
 use Rattle.apl_base.specs.declared.rows.Dya.TheVariants as dya
-use Rattle.apl_base.specs.Array.{IsIndex}
+use Rattle.apl_base.specs.Array.{size_of, index_at}
 use Rattle.apl_base.specs.Scalar.{number, on_number, of_number, of_numbers, scalar1, scalar2}
 use Rattle.array_store.specs.Stores.{StoreView}
 use Rattle.array_store.specs.Counting.{OnlyCounted}
@@ -19,7 +19,7 @@ use Rattle.drag_along.specs.Segments.{HasShape}
 use Rattle.drag_along.specs.Meaning.{leaf_element, value_at, values_at, fails_at}
 use Rattle.drag_along.specs.Lawful.{IsLawfulLeaf}
 use Rattle.drag_along.specs.Views.{only_leaf}
-use Rattle.e_machine.specs.Runs.{IsReadable}
+use Rattle.e_machine.specs.Runs.{IsReadable, HaveIndex}
 use Rattle.e_machine.proofs.StackRuns.{value_counted}
 use Rattle.e_machine.proofs.CountedLemmas.{lawful_leaf-counted}
 
@@ -76,18 +76,25 @@ fails_counted s t i (x ∷ xs) zero st only = refl
 fails_counted s t i (x ∷ xs) (suc k) st only =
     ap (fails_at t i xs k) (value_counted s t i x st only) ∙ fails_counted s t i xs k (value_at s i x st) only
 
--- the leaves of a lawful segment can be read at each of its indices
-pub all_readable : (s t : StoreView) (sh i : List ℕ) (xs : List Node) → OnlyCounted s t → IsIndex sh i → AllLeaves (HasShape sh) xs → AllLeaves (IsLawfulLeaf s) xs → AllLeaves (IsReadable t i) xs
-all_readable s t sh i [] only index shapes lawful = tt
-all_readable s t sh i (Operand leaf ∷ xs) only index shapes lawful = (
+-- the leaves of a lawful segment can be read at places of its shape
+pub all_readable : (s t : StoreView) (sh : List ℕ) (first n : ℕ) (xs : List Node) → OnlyCounted s t → first + n ≤ size_of sh → AllLeaves (HasShape sh) xs → AllLeaves (IsLawfulLeaf s) xs → AllLeaves (IsReadable t first n) xs
+all_readable s t sh first n [] only within shapes lawful = tt
+all_readable s t sh first n (Operand leaf ∷ xs) only within shapes lawful = (
   record {
-    within = subst (λ (ns : List ℕ). IsIndex ns i) (sym shapes.0.same) index;
     lawful = lawful_leaf-counted s t leaf only lawful.0;
+    places = subst (λ (ns : List ℕ). first + n ≤ size_of ns) (sym shapes.0.same) within;
   },
-  all_readable s t sh i xs only index shapes.1 lawful.1,
+  all_readable s t sh first n xs only within shapes.1 lawful.1,
 )
-all_readable s t sh i (One f p ∷ xs) only index shapes lawful = all_readable s t sh i xs only index shapes lawful
-all_readable s t sh i (Two f p ∷ xs) only index shapes lawful = all_readable s t sh i xs only index shapes lawful
+all_readable s t sh first n (One f p ∷ xs) only within shapes lawful = all_readable s t sh first n xs only within shapes lawful
+all_readable s t sh first n (Two f p ∷ xs) only within shapes lawful = all_readable s t sh first n xs only within shapes lawful
+
+-- and have the shape's index at a place
+pub all_index : (sh : List ℕ) (p : ℕ) (xs : List Node) → AllLeaves (HasShape sh) xs → HaveIndex p (index_at sh p) xs
+all_index sh p [] shapes = tt
+all_index sh p (Operand leaf ∷ xs) shapes = (ap (λ (ns : List ℕ). index_at ns p) (sym shapes.0.same), all_index sh p xs shapes.1)
+all_index sh p (One f q ∷ xs) shapes = all_index sh p xs shapes
+all_index sh p (Two f q ∷ xs) shapes = all_index sh p xs shapes
 
 -- ---- how many values are left, and that the last is a number where it is a function's
 

@@ -3,7 +3,9 @@ pub mod WholeLemmas
 pub mod CopyLemmas
 pub mod BesideLemmas
 pub mod LoneLeafLemmas
+pub mod ColumnLemmas
 pub mod StackRuns
+pub mod BlockRuns
 pub mod FirstNodes
 pub mod Visits
 pub mod FirstFaults

@@ -1,11 +1,12 @@
 //! Computes the elements of pending expressions.
 #![tactic(auto)]
 
+mod columns;
 mod copies;
-mod elements;
 mod engine;
 mod faults;
 mod forcing;
+mod kinds;
 mod laws;
 mod reads;
 
