@@ -1,3 +1,4 @@
 pub mod StandLemmas
 pub mod GrowingLemmas
 pub mod StatementLemmas
+pub mod BehindLemmas

@@ -8,4 +8,4 @@ mod statements;
 
 pub use growing::code_grows;
 pub use laws::{instructions_stand, joins_stand, stands_are_lists};
-pub use statements::statements_have_codes;
+pub use statements::{statements_have_codes, statements_stand_alone};
