@@ -1,5 +1,5 @@
 -- The lines of refusals and of the trace, as characters. (Own: all of them.)
-use Rattle.std.specs.Prelude.{ℕ, ℤ, pos, List, [], ◌∷◌, ◌++◌, map, codes, decimal}
+use Rattle.std.specs.Prelude.{ℕ, ◌+◌, ◌-◌, ℤ, pos, List, [], ◌∷◌, ◌++◌, length, map, replicate, codes, decimal}
 use Rattle.std.specs.List.{join_by}
 use Rattle.apl_base.specs.declared.faults.Refusal.{Refusal}
 use Rattle.apl_base.specs.declared.faults.Cause.{Cause}
@@ -14,6 +14,12 @@ use Rattle.apl_print.specs.declared.costs.Cost.{Cost}
 -- fields joined by one blank, on a line
 abbrev pub line_of : List (List ℕ) → List ℕ
 line_of fields = join_by (λ f. f) blank fields ++ newline
+
+-- ---- reports
+
+-- a line with what stands before it, and a caret under its column. Columns count from 1
+abbrev pub pointed : List ℕ → List ℕ → ℕ → List ℕ
+pointed prefix line column = prefix ++ (line ++ (newline ++ (replicate (length prefix + (column - 1)) 32 ++ codes "^\n")))
 
 -- ---- refusals
 

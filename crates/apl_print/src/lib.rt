@@ -1,9 +1,15 @@
 //! Printed text: arrays, reports, refusals and the lines of the trace.
 #![tactic(auto)]
 
+mod cells;
 mod costs;
 mod faults;
 mod grids;
+mod lines;
+mod reports;
+mod sends;
 
 pub use costs::Cost;
 pub use faults::PrintFault;
+pub use lines::{write_cost, write_desc, write_refusal};
+pub use reports::write_report;

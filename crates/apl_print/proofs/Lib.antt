@@ -1,0 +1,4 @@
+mod LineTexts
+mod Pieces
+mod ReportTexts
+mod Utf8
