@@ -1,0 +1,5 @@
+pub mod ComputedLemmas
+pub mod EntryLemmas
+pub mod PassLemmas
+pub mod SafeLemmas
+pub mod DeskLemmas

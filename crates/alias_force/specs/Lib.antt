@@ -1,0 +1,4 @@
+pub mod Desk
+pub mod Moving
+pub mod Steps
+pub mod Laws
