@@ -1,0 +1,50 @@
+-- How a function that is made at once ends: without room, without memory, or with the leaf of its answer.
+use Rattle.std.proofs.Common.{◌≡◌, ℕ, ℤ, List, Bool, true, false, length, Result, Ok, Err, refl, sym, ap, subst}
+use Rattle.std.specs.Result.{IsErrAnd}
+use Rattle.apl_base.specs.declared.cells.Kind.{Kind}
+use Rattle.apl_base.specs.declared.faults.ErrorKind.{ErrorKind}
+use Rattle.apl_base.specs.Array.{Array, IsArray}
+use Rattle.array_store.specs.Stores.{StoreView, HasRoom}
+use Rattle.array_store.specs.Counting.{OnlyFetched}
+use Rattle.array_store.proofs.CountingLemmas.{OnlyFetched-none}
+use Rattle.drag_along.specs.declared.leaves.Leaf.{Leaf}
+use Rattle.e_machine.specs.Forced.{IsNewLeaf}
+use Rattle.apl_model.specs.Whole.{Answer, error_if}
+use Rattle.apl_model_laws.specs.Lawful.{IsAnswer}
+use Rattle.made_leaf.specs.declared.faults.MadeFault.{MadeFault}
+use Rattle.made_leaf.specs.declared.faults.MadeFault.TheVariants as made
+use Rattle.made_leaf.specs.Made.{Fetched, IsMadeBy, IsAnswered, IsRoomFault}
+use Rattle.made_leaf.proofs.MadeLemmas.{room_made, memory_made, leaf_made}
+
+-- an answer that is an error is this one
+err_exit : (P : Result Leaf MadeFault → Type 0) (r : Result Leaf MadeFault) (fault : MadeFault) → IsErrAnd r (λ e. e ≡ fault) → P (Err fault) → P r
+err_exit P (Ok leaf) fault h p = absurd h
+err_exit P (Err e) fault h p = subst (λ (f : MadeFault). P (Err f)) (sym h) p
+
+-- there was no room
+pub no_room : (old : StoreView) (answer : Answer) (a : Array) (n most : ℕ) (r : Result Leaf MadeFault) (fault : MadeFault) → answer ≡ Ok a → length a.cells ≡ n → IsErrAnd r (λ e. e ≡ fault) → IsRoomFault old n fault → IsMadeBy (Fetched old most) old old answer r
+no_room old answer a n most r fault is many h refused =
+    err_exit (IsMadeBy (Fetched old most) old old answer) r fault h (room_made (Fetched old most) old old answer a n fault is many refl (OnlyFetched-none old most) refused)
+
+-- memory was wanting after there was room
+pub no_memory : (old new : StoreView) (answer : Answer) (a : Array) (n most : ℕ) (r : Result Leaf MadeFault) → answer ≡ Ok a → length a.cells ≡ n → HasRoom old n → OnlyFetched old new most → IsErrAnd r (λ e. e ≡ made.NoMemory) → IsMadeBy (Fetched old most) old new answer r
+no_memory old new answer a n most r is many room counted h =
+    err_exit (IsMadeBy (Fetched old most) old new answer) r made.NoMemory h (memory_made (Fetched old most) old new answer a n is many room counted)
+
+-- the leaf of these cells was made
+pub made_of : (old between new : StoreView) (answer : Answer) (a : Array) (most : ℕ) (kind : Kind) (shape : List ℕ) (cells : List ℤ) (leaf : Leaf) → answer ≡ Ok a → kind ≡ a.kind → shape ≡ a.shape → cells ≡ a.cells → OnlyFetched old between most → IsNewLeaf (λ s. s ≡ between) new (record { kind = kind; shape = shape; cells = cells }) leaf → IsAnswered (Fetched old most) new answer leaf
+made_of old between new answer a most kind shape cells leaf is k s c counted made =
+    leaf_made (Fetched old most) between new answer a (record { kind = kind; shape = shape; cells = cells }) leaf is
+    (λ i. record { kind = k i; shape = s i; cells = c i }) counted made
+
+-- a test that doesn't hold passes
+pub passes : (e : ErrorKind) (b : Bool) (next : Answer) → b ≡ false → error_if e b next ≡ next
+passes e b next h = ap (λ (t : Bool). error_if e t next) h
+
+-- one that holds stops
+pub stops : (e : ErrorKind) (b : Bool) (next : Answer) → b ≡ true → error_if e b next ≡ Err e
+stops e b next h = ap (λ (t : Bool). error_if e t next) h
+
+-- an array that is the answer is lawful where the answer is
+pub lawful_array : (answer : Answer) (a : Array) → answer ≡ Ok a → IsAnswer answer → IsArray a
+lawful_array answer a is h = subst IsAnswer is h

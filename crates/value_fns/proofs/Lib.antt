@@ -1,0 +1,6 @@
+pub mod Ordered
+pub mod Found
+pub mod Mapped
+pub mod FoundKinds
+pub mod Ends
+pub mod Looked

@@ -1,0 +1,8 @@
+//! Functions made at once whose answers depend on the values of their arguments.
+#![tactic(auto)]
+
+mod memberships;
+mod orders;
+mod searches;
+
+pub use memberships::{index_of, member};
