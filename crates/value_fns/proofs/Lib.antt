@@ -4,3 +4,4 @@ pub mod Mapped
 pub mod FoundKinds
 pub mod Ends
 pub mod Looked
+pub mod Graded

@@ -3,12 +3,12 @@ use Rattle.std.proofs.Common.{◌≡◌, ℕ, zero, suc, ◌+◌, ◌<◌, Bool,
 use Rattle.std.specs.List.{AllByRecursion, filter}
 use Rattle.std.specs.List.Sorted.{IsSortedBy, IsStableBy, IsSortedByKey, IsStableByKey}
 use Rattle.std.specs.declared.cmp.Ordering.TheVariants.{Less, Equal, Greater}
-use Rattle.std.proofs.lemmas.List.{take_more}
+use Rattle.std.proofs.lemmas.List.{length-map, take_more}
 use Rattle.std.proofs.lemmas.Int.{ints, by_lt_z}
 use Rattle.apl_base.specs.Selection.{upward}
 use Rattle.apl_base.proofs.Lists.{all_imp}
 use Rattle.apl_base.proofs.Upward.{list_by_places}
-use Rattle.apl_model.specs.Made.{comes_first, place_in, in_order}
+use Rattle.apl_model.specs.Made.{comes_first, counted_from, place_in, in_order}
 use Rattle.std.specs.Prelude.{slice_index_or, if◌then◌else◌}
 use Rattle.std.specs.Ordering.{int_cmp, is_lt}
 use Rattle.value_fns.specs.Placed.{Placed, placed_from, cell_of, IsIndex}
@@ -305,3 +305,21 @@ placed-more xs k h =
 pub placed-step : (xs : List ℤ) (placed more : List Placed) (k : ℕ) (x : ℤ) → k < length xs → x ≡ get_or xs k (pos 0) → placed ≡ placed_from 0 (take k xs) → more ≡ placed ++ (x, k) ∷ [] → more ≡ placed_from 0 (take (k + 1) xs)
 placed-step xs placed more k x h e f g =
     g ∙ ap (λ (ys : List Placed). ys ++ (x, k) ∷ []) f ∙ ap (λ (z : ℤ). placed_from 0 (take k xs) ++ (z, k) ∷ []) e ∙ placed-more xs k h
+
+-- ---- the order as code makes it
+
+-- the places of an index, counted from the origin
+placed_places : (o : ℤ) (placed : List Placed) → map (λ (x : Placed). counted_from o x.1) placed ≡ map (counted_from o) (map (λ (x : Placed). x.1) placed)
+placed_places o [] = refl
+placed_places o (x ∷ placed) = let rest = placed_places o placed in cc
+
+pub rising_order : (o : ℤ) (cells after : List ℤ) (placed : List Placed) → IsIndex cells placed → after ≡ map (λ (x : Placed). counted_from o x.1) placed → after ≡ map (counted_from o) (in_order false cells (upward 0 (length cells)))
+rising_order o cells after placed h e = e ∙ placed_places o placed ∙ ap (map (counted_from o)) (index-places cells placed h)
+
+pub falling_order : (o : ℤ) (cells moved after : List ℤ) (placed : List Placed) → moved ≡ negated cells → IsIndex moved placed → after ≡ map (λ (x : Placed). counted_from o x.1) placed → after ≡ map (counted_from o) (in_order true cells (upward 0 (length cells)))
+falling_order o cells moved after placed m h e =
+    let n : length moved ≡ length cells = ap length m ∙ length-map cells neg_ℤ in
+    rising_order o moved after placed h e
+    ∙ ap (λ (k : ℕ). map (counted_from o) (in_order false moved (upward 0 k))) n
+    ∙ ap (λ (xs : List ℤ). map (counted_from o) (in_order false xs (upward 0 (length cells)))) m
+    ∙ ap (map (counted_from o)) (sym (negated-order cells (upward 0 (length cells))))

@@ -1,8 +1,11 @@
 //! Functions made at once whose answers depend on the values of their arguments.
 #![tactic(auto)]
 
+mod grades;
+mod kinds;
 mod memberships;
 mod orders;
 mod searches;
 
+pub use grades::grade;
 pub use memberships::{index_of, member};

@@ -1,11 +1,54 @@
-ghost use Rattle.std.specs.Prelude.{◌≡◌, ◌^◌, ◌<◌, ◌≤ℤ◌, ◌<ℤ◌, ◌+ℤ◌, pos, neg_ℤ, map, length, All, IfOk, OnOk};
+ghost use Rattle.std.specs.Prelude.{◌≡◌, ◌<◌, ◌≤◌, pos, neg_ℤ, map, length, All, IfOk, OnOk};
 ghost use Rattle.apl_base.specs.Number.{IsNumber};
 ghost use Rattle.apl_base.specs.Selection.{upward};
 ghost use Rattle.apl_model.specs.Made.{counted_from, in_order};
-ghost use Rattle.value_fns.specs.Placed.{IsIndex, placed_from};
+ghost use Rattle.value_fns.specs.Placed.{IsIndex, Placed, placed_from};
 
 use apl_base::{Cell, NoMemory};
 use std::alloc::Global;
+
+/// Puts the places of numbers, counted from the origin, in rising or falling order of the numbers into their own place.
+/// Equal numbers keep their order.
+pub(crate) fn order_cells(
+    alloc: Global,
+    down: bool,
+    origin: u64,
+    cells: &mut [Cell],
+) -> Result<(), NoMemory>
+    requires numbers { All IsNumber cells.old }
+    requires origin { origin ≤ 1 }
+    ensures { OnOk result (cells.new ≡ map (counted_from (pos origin))
+        (in_order down cells.old (upward 0 (length cells.old)))) }
+{
+    // The falling order is the rising order of the numbers negated.
+    if down {
+        negate(cells);
+    }
+    let index = index_cells(alloc, cells)?;
+    put_places(index.as_slice(), origin, cells);
+    Ok(())
+}
+
+// Negates each number.
+fn negate(cells: &mut [Cell])
+    requires { All IsNumber cells.old }
+    ensures { cells.new ≡ map neg_ℤ cells.old }
+{
+    for cell in cells.iter_mut() {
+        *cell = -*cell;
+    }
+}
+
+// Puts the places of an index, counted from the origin, into a slice of that length.
+fn put_places(index: &[(Cell, u64)], origin: u64, cells: &mut [Cell])
+    requires length { length index.now ≡ length cells.old }
+    requires origin { origin ≤ 1 }
+    ensures { cells.new ≡ map (λ x. counted_from (pos origin) x.1) index.now }
+{
+    for (i, placed) in index.iter().enumerate() {
+        cells[i] = Cell::from(origin) + Cell::from(placed.1);
+    }
+}
 
 // The cells with their places, counted from 0.
 fn numbered(alloc: Global, cells: &[Cell]) -> Result<Vec<(Cell, u64)>, NoMemory>

@@ -1,6 +1,5 @@
 ghost use Rattle.std.specs.Prelude.{◌≡◌, ◌+◌, ◌≤◌, [], pos, map, length, replicate, OnOk, vec_len, vec_capacity};
 ghost use Rattle.apl_base.specs.Array.{size_of};
-ghost use Rattle.apl_base.specs.Scalar.{is_same_kind};
 ghost use Rattle.array_store.specs.Stores.{IsStore};
 ghost use Rattle.array_store.specs.Counting.{OnlyFetched};
 ghost use Rattle.drag_along.specs.Nodes.{leaf_shape};
@@ -10,8 +9,9 @@ ghost use Rattle.apl_model.specs.Made.{counted_from};
 ghost use Rattle.value_fns.specs.Placed.{IsIndex, first_place};
 ghost use Rattle.value_fns.specs.Searches.{first_places};
 
+use crate::kinds::is_one_kind;
 use crate::orders::index_cells;
-use apl_base::{Cell, Kind, NoMemory};
+use apl_base::{Cell, NoMemory};
 use array_store::Store;
 use drag_along::Leaf;
 use made_leaf::{read_all, read_cells};
@@ -53,13 +53,6 @@ pub(crate) fn find_elements(
     let alloc = among.desc().shape.allocator();
     find_cells(alloc, cells.as_slice(), origin, into.as_mut_slice())?;
     Ok(())
-}
-
-// Whether two kinds are one.
-fn is_one_kind(a: Kind, b: Kind) -> bool
-    ensures { result ≡ is_same_kind a b }
-{
-    matches!((a, b), (Kind::Num, Kind::Num) | (Kind::Char, Kind::Char))
 }
 
 // Puts so many cells, all of this number, into an empty vector with room for them.
