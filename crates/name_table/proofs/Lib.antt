@@ -6,3 +6,5 @@ pub mod PlaceLemmas
 pub mod ReleaseLemmas
 pub mod UnsetLemmas
 pub mod LettingLemmas
+pub mod FittingLemmas
+pub mod SettingLemmas

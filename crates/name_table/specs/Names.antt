@@ -1,6 +1,6 @@
 -- What the calls on names leave, in the names and in the store.
 use Rattle.std.specs.Prelude.{◌≡◌, ◌⊎◌, ℕ, ◌+◌, ◌<◌, List, [], ◌∷◌, Some}
-use Rattle.apl_base.specs.Array.{Array, size_of}
+use Rattle.apl_base.specs.Array.{size_of}
 use Rattle.array_store.specs.Stores.{StoreView, HasRoom, owner_at, new_owner}
 use Rattle.array_store.specs.Follows.{Follows}
 use Rattle.array_store.specs.Came.{Came, Renews}
@@ -8,7 +8,7 @@ use Rattle.array_store.specs.declared.ids.BeginFault.{BeginFault}
 use Rattle.array_store.specs.declared.ids.BeginFault.TheVariants as begin
 use Rattle.drag_along.specs.declared.leaves.Leaf.{Leaf}
 use Rattle.drag_along.specs.Nodes.{leaf_shape}
-use Rattle.drag_along.specs.Views.{IsWholeView, StandsForArray}
+use Rattle.drag_along.specs.Views.{StandsForArray}
 use Rattle.e_machine.specs.Forced.{IsCopy}
 use Rattle.apl_model.specs.Environment.{Environment, set_name}
 use Rattle.leaf_names.specs.Variables.{named_by_names, array_of, AreLawfulNames, FillsOwner, FillOwners}
@@ -26,7 +26,7 @@ pub record IsPutItself (old new : StoreView) (leaf put : Leaf) : Type 0 where
   pub counts : new.counts ≡ old.counts
   pub renews : Renews old new []
 
--- any other is put as its copy: a whole view of a new owner, which has just its elements and this one holder. What is
+-- any other is put as its copy, a whole view of a new owner, which has just its elements and this one holder. What is
 -- counted is what the copying counts, and no other owner comes
 pub record IsPutAsCopy (old new : StoreView) (leaf put : Leaf) : Type 0 where
   pub partial : ¬ (FillsOwner old leaf)
@@ -34,10 +34,8 @@ pub record IsPutAsCopy (old new : StoreView) (leaf put : Leaf) : Type 0 where
   pub copied : StoreView
   pub copy : IsCopy old copied leaf put
   pub counts : new.counts ≡ copied.counts
-  pub key : ℕ
-  pub view : IsWholeView key (leaf_shape leaf) (array_of old leaf).kind put
-  pub owner : owner_at new key ≡ Some (new_owner (array_of old leaf).cells (array_of old leaf).kind)
-  pub renews : Renews old new (record { key = key; cells = elements_of leaf } ∷ [])
+  pub owner : owner_at new copy.made.key ≡ Some (new_owner (array_of old leaf).cells (array_of old leaf).kind)
+  pub renews : Renews old new (record { key = copy.made.key; cells = elements_of leaf } ∷ [])
 
 abbrev pub IsPut : StoreView → StoreView → Leaf → Leaf → Type 0
 IsPut old new leaf put = IsPutItself old new leaf put ⊎ IsPutAsCopy old new leaf put

@@ -15,7 +15,7 @@ ghost use Rattle.leaf_names.specs.Variables.{array_of, named_by_names, variables
 ghost use Rattle.name_table.specs.Scopes.{AreAllNames, IsInnermost};
 ghost use Rattle.name_table.specs.Names.{elements_of, IsSet, IsSetFault, LetsGo};
 
-use crate::leaves::let_go;
+use crate::leaves::{fitted, let_go};
 use crate::scopes::Scope;
 use apl_base::{Name, NoMemory};
 use array_store::{BeginFault, Store};
@@ -101,6 +101,42 @@ impl Names {
             unreachable!()
         };
         old
+    }
+
+    /// Sets a name where the look-up finds it: in the innermost frame that declares it, else among the globals. A leaf
+    /// that fills its owner is kept, any other is copied, so that no name keeps a large owner for a few of its cells.
+    /// The leaf that the name had is let go. `WsFull` is that of the copy. After a refusal the names are as they were,
+    /// and the given leaf is let go.
+    pub fn set(&mut self, name: &Name, leaf: Leaf, store: &mut Store) -> Result<(), BeginFault>
+        requires leaf { IsLawfulLeaf store.old leaf }
+        requires lawful { AreLawfulNames store.old self.old }
+        requires held { Holds store.old (both (named_by_names self.old) (named_by_leaf leaf)) }
+        ensures set { OnOk result (IsSet store.old store.new self.old self.new name.now leaf) }
+        ensures means { OnOk result ((origin : ℤ) → variables_of store.new origin self.new
+            ≡ set_name (variables_of store.old origin self.old) name.now (array_of store.old leaf)) }
+        ensures lawful { OnOk result (AreLawfulNames store.new self.new) }
+        ensures fills { OnOk result (FillOwners store.old self.old
+            → FillOwners store.new self.new) }
+        ensures follows { OnOk result (Follows store.old store.new
+            (both (named_by_names self.old) (named_by_leaf leaf)) (named_by_names self.new)) }
+        ensures refused { IfErr result (IsSetFault store.old store.new leaf) }
+        ensures unchanged { OnErr result (self.new ≡ self.old) }
+        ensures released { OnErr result (Follows store.old store.new (named_by_leaf leaf) none) }
+        ensures free { FillsOwner store.old leaf → store.new.counts ≡ store.old.counts }
+        ensures costs { Costs store.old store.new (elements_of leaf) (elements_of leaf) 0 }
+        ensures store { IsStore store.new }
+    {
+        let fitted = fitted(leaf, store)?;
+        match self.put(name, fitted) {
+            Ok(old) => {
+                let_go(old, store);
+                Ok(())
+            }
+            Err(fitted) => {
+                fitted.release(store);
+                Err(BeginFault::NoMemory)
+            }
+        }
     }
 
     // Puts a leaf where the look-up finds the name, or among the globals, and answers the one that was there. A name
