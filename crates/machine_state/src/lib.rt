@@ -1,0 +1,6 @@
+//! The state of the machine, what it stands for, and the steps that change it by one entry each.
+#![tactic(auto)]
+
+mod machines;
+
+pub use machines::Machine;

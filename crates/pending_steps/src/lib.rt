@@ -1,0 +1,12 @@
+//! The machine's steps on pending entries: scalar functions, deferred.
+#![tactic(auto)]
+
+mod fits;
+mod halts;
+mod joins;
+mod rooms;
+
+pub use fits::{Fit, shapes_fit};
+pub use halts::Halt;
+pub use joins::{extend, join_one, join_two};
+pub use rooms::{compute_entry, settle_entries};
