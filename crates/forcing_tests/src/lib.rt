@@ -4,6 +4,8 @@
 #[cfg(test)]
 mod arrays;
 #[cfg(test)]
+mod blocks;
+#[cfg(test)]
 mod forced;
 #[cfg(test)]
 mod leaves;

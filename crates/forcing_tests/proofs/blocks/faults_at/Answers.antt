@@ -1,0 +1,9 @@
+use Rattle.std.proofs.Common.{arith}
+use Rattle.e_machine.proofs.LoneLeafLemmas.{ForSome-functions}
+use Rattle.forcing_tests.proofs.blocks.faults_at.Goals as goal
+
+pub force-requires-clause-lawful : goal.force-requires-clause-lawful
+force-requires-clause-lawful c = c.in_ok-s.ensures.lawful
+
+pub force-requires-clause-holders : goal.force-requires-clause-holders
+force-requires-clause-holders c = ForSome-functions _ c.in_ok-s.s.nodes (omega (arith, c.in_ok-s.ensures.functions))
