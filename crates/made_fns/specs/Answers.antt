@@ -1,0 +1,55 @@
+-- What the functions of this crate answer and count, beside what `made_leaf` says of all functions made at once.
+use Rattle.std.specs.Prelude.{◌≡◌, ℕ, ◌%◌, ℤ, pos, int_le, unsigned_abs, Bool, ◌&&◌, List, ◌++◌, map, slice_index_or, Result, Ok, Err}
+use Rattle.apl_base.specs.declared.cells.Kind.TheVariants.{Num}
+use Rattle.apl_base.specs.declared.faults.ErrorKind.{ErrorKind}
+use Rattle.apl_base.specs.Array.{Array, size_of}
+use Rattle.apl_base.specs.Selection.{upward}
+use Rattle.array_desc.specs.Desc.{DescView}
+use Rattle.array_store.specs.Stores.{StoreView}
+use Rattle.drag_along.specs.declared.leaves.Leaf.{Leaf}
+use Rattle.drag_along.specs.declared.leaves.Leaf.TheVariants.{Gen}
+use Rattle.drag_along.specs.Nodes.{leaf_shape}
+use Rattle.drag_along.specs.Views.{StandsForArray}
+use Rattle.apl_model.specs.Made.{joined_kind}
+use Rattle.apl_model.specs.Whole.{Answer, count, vector}
+use Rattle.leaf_names.specs.Variables.{array_of}
+
+-- how many elements a leaf has
+abbrev pub elements_in : Leaf → ℕ
+elements_in leaf = size_of (leaf_shape leaf)
+
+-- the leaf has the numbers of a descriptor, and stands over every store for the array that is the answer
+pub record IsNumbersOf (answer : Answer) (leaf : Leaf) : Type 0 where
+  pub array : Array
+  pub is : answer ≡ Ok array
+  pub desc : DescView
+  pub numbers : leaf ≡ Gen desc Num
+  pub stands : (store : StoreView) → StandsForArray store leaf array
+
+-- what is answered by a function that makes no owner: such a leaf, or the answer's error
+abbrev pub IsNumbersBy : Answer → Result Leaf ErrorKind → Type 0
+IsNumbersBy answer (Ok leaf) = IsNumbersOf answer leaf
+IsNumbersBy answer (Err kind) = answer ≡ Err kind
+
+-- the elements of A and then those of B
+abbrev pub joined_array : StoreView → Leaf → Leaf → Array
+joined_array store a b =
+    let x = array_of store a in
+    let y = array_of store b in
+    vector (joined_kind x y) (x.cells ++ y.cells)
+
+-- a number from one to another
+abbrev pub is_between : ℤ → ℤ → ℤ → Bool
+is_between low high z = int_le low z && int_le z high
+
+-- the lengths that an array of numbers names: their magnitudes
+abbrev pub lengths_named : Array → List ℕ
+lengths_named a = map unsigned_abs a.cells
+
+-- the elements of B in the shape A
+abbrev pub reshaped_array : Array → Array → Array
+reshaped_array a b = record {
+  kind = b.kind;
+  shape = lengths_named a;
+  cells = map (λ p. slice_index_or b.cells (p % count b) (pos 0)) (upward 0 (size_of (lengths_named a)));
+}

@@ -1,0 +1,12 @@
+//! Functions of whole arrays that are made at once, as far as they move elements: shapes, vectors, repetition, rotation,
+//! compression, expansion and subscripts. Each answers the array of its definition, in a leaf that reads a new owner, or
+//! the first of its errors.
+#![tactic(auto)]
+
+mod joins;
+mod leaves;
+mod scans;
+mod vectors;
+
+pub use joins::catenate;
+pub use vectors::{iota, ravel, shape_of};
