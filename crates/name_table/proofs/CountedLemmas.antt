@@ -1,15 +1,12 @@
 -- How often names and an owner go together at most.
-use Rattle.std.proofs.Common.{◌≡◌, ℕ, ◌+◌, ◌*◌, ◌^◌, ◌<◌, ◌≤◌, List, [], ◌∷◌, length, Option, Some, None, arith}
+use Rattle.std.proofs.Common.{ℕ, ◌*◌, ◌^◌, ◌≤◌, List, [], ◌∷◌, length, Option, Some, None, arith}
 use Rattle.std.specs.List.{All}
 use Rattle.std.proofs.lemmas.List.Elements.{All-head, All-tail}
 use Rattle.drag_along.specs.declared.leaves.Leaf.{Leaf}
 use Rattle.drag_along.specs.declared.leaves.Leaf.TheVariants.{Stored, Gen}
-use Rattle.drag_along.specs.Nodes.{named_by_leaf}
-use Rattle.array_store.specs.Follows.{one_of}
-use Rattle.apl_model.specs.Environment.{Bindings, Environment}
-use Rattle.leaf_names.specs.Variables.{named_by_option, named_by_bindings, named_by_names}
+use Rattle.apl_model.specs.Environment.{Bindings}
+use Rattle.leaf_names.specs.Variables.{named_by_option, named_by_bindings}
 use Rattle.leaf_names.proofs.CountLemmas.{named-cons, in_frames, frames-cons}
-use Rattle.name_table.specs.Scopes.{AreNames, AreAllNames}
 use Rattle.name_table.specs.Laws.{NamedAtMost}
 
 option-once : (o : Option Leaf) (key : ℕ) → named_by_option o key ≤ 1

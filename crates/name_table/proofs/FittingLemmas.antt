@@ -1,31 +1,28 @@
 -- The leaf that a name is given: the one at hand, or its copy.
-use Rattle.std.proofs.Common.{◌≡◌, ℕ, ◌+◌, ◌<◌, ◌≤◌, ◌^◌, ℤ, List, [], ◌∷◌, ◌++◌, length, Option, Some, None, unwrap_or, Result, Ok, Err, IfOk, IfErr, OnOk, refl, sym, ap, ◌∙◌, subst, inl, inr, arith}
+use Rattle.std.proofs.Common.{◌≡◌, ℕ, ◌+◌, ◌<◌, ℤ, List, [], ◌∷◌, length, Option, Some, None, unwrap_or, Result, Ok, Err, IfOk, IfErr, OnOk, refl, sym, ap, ◌∙◌, subst, inl, inr, arith}
 use Rattle.std.specs.Option.{option_map}
-use Rattle.apl_base.specs.declared.cells.Kind.{Kind}
 use Rattle.apl_base.specs.Array.{Array, size_of}
 use Rattle.array_desc.specs.Desc.{IsDesc}
-use Rattle.array_store.specs.Stores.{OwnerView, OwnerData, StoreView, IsStore, AreCounts, HasRoom, Makes, owner_at, owner_data, no_owner, holders_of, cells_of, new_owner}
-use Rattle.array_store.specs.Came.{Came, Renews}
-use Rattle.array_store.specs.Counting.{OnlyFetched, Costs}
+use Rattle.array_store.specs.Stores.{OwnerView, OwnerData, StoreView, AreCounts, HasRoom, owner_at, owner_data, no_owner, holders_of, cells_of, new_owner}
+use Rattle.array_store.specs.Came.{Renews}
+use Rattle.array_store.specs.Counting.{Costs}
 use Rattle.array_store.specs.Follows.{LeafCounts, Follows, Holds, none, both}
 use Rattle.array_store.specs.declared.ids.Counts.{Counts}
 use Rattle.array_store.specs.declared.ids.BeginFault.{BeginFault}
 use Rattle.array_store.specs.declared.ids.BeginFault.TheVariants as begin
 use Rattle.array_store.proofs.CameLemmas.{renews_nothing, renews_then, renews_made, renews_counted}
 use Rattle.array_store.proofs.CountingLemmas.{costs_nothing, costs_then, costs_more, costs_fetched, costs_made}
-use Rattle.array_store.proofs.FollowsLemmas.{follows_then, follows_beside, follows_counted, holds_beside}
+use Rattle.array_store.proofs.FollowsLemmas.{follows_then, follows_beside, follows_counted}
 use Rattle.drag_along.specs.declared.leaves.Leaf.{Leaf}
-use Rattle.drag_along.specs.declared.leaves.Leaf.TheVariants.{Stored, Gen}
-use Rattle.drag_along.specs.Nodes.{leaf_desc, leaf_shape, leaf_kind, named_by_leaf}
-use Rattle.drag_along.specs.Segments.{HasShape}
+use Rattle.drag_along.specs.Nodes.{leaf_desc, named_by_leaf}
 use Rattle.drag_along.specs.Lawful.{IsLawfulLeaf, SameData}
 use Rattle.drag_along.specs.Meaning.{leaf_array}
-use Rattle.drag_along.specs.Views.{IsWholeView, StandsForArray}
+use Rattle.drag_along.specs.Views.{StandsForArray}
 use Rattle.drag_along.proofs.KeptLemmas.{follows_keeps, lawful_leaf_kept}
 use Rattle.e_machine.specs.Forced.{IsCopy, IsCopyFault, named_by_answer}
 use Rattle.leaf_names.specs.Variables.{array_of, FillsOwner}
 use Rattle.leaf_names.proofs.KeptLemmas.{array_kept}
-use Rattle.name_table.specs.Names.{elements_of, IsPutItself, IsPutAsCopy, IsPut, IsNotCopied, IsSetFault}
+use Rattle.name_table.specs.Names.{elements_of, IsPut, IsSetFault}
 use Rattle.name_table.proofs.ReleaseLemmas.{renews_released}
 
 -- ---- an owner that no leaf names that goes

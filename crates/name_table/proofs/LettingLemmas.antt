@@ -1,7 +1,5 @@
 -- Names over a store in which leaves of theirs were let go, and what they stand for where they change.
-use Rattle.std.proofs.Common.{◌≡◌, ℕ, ◌+◌, ◌<◌, ◌≤◌, ℤ, Bool, true, false, if◌then◌else◌, List, [], ◌∷◌, ◌++◌, map, Option, Some, None, refl, sym, ap, ◌∙◌, subst, arith}
-use Rattle.std.specs.List.{AllByRecursion}
-use Rattle.std.specs.Option.{ForSome}
+use Rattle.std.proofs.Common.{◌≡◌, ℕ, ◌+◌, ℤ, Bool, true, false, if◌then◌else◌, List, [], ◌∷◌, map, Option, Some, None, refl, sym, ap, ◌∙◌, subst, arith}
 use Rattle.apl_base.specs.Array.{Array}
 use Rattle.array_store.specs.Stores.{StoreView}
 use Rattle.array_store.specs.Follows.{LeafCounts, Follows, Holds, none, both}
@@ -9,7 +7,7 @@ use Rattle.array_store.proofs.FollowsLemmas.{follows_beside, follows_counted}
 use Rattle.drag_along.specs.declared.leaves.Leaf.{Leaf}
 use Rattle.drag_along.specs.Lawful.{IsLawfulLeaf, SameData}
 use Rattle.drag_along.proofs.KeptLemmas.{follows_keeps}
-use Rattle.apl_model.specs.Environment.{Bindings, Environment, bound_in, bound_to, declares, unset_global, declared_in, set_in_frames, set_name, erased, with_frame, without_frame, with_origin, mapped, mapped_bindings}
+use Rattle.apl_model.specs.Environment.{Bindings, Environment, bound_in, bound_to, declared_in, set_in_frames, set_name, erased, with_frame, without_frame, with_origin, mapped, mapped_bindings}
 use Rattle.apl_model.specs.Frames.{unset}
 use Rattle.apl_model.proofs.Mapped.{set_name-mapped, erased-mapped, without_frame-mapped}
 use Rattle.leaf_names.specs.Variables.{named_by_option, named_by_bindings, named_by_names, AllBound, EachLeaf, AreLawfulNames, FillsOwner, FillOwners, array_of, variables_of}

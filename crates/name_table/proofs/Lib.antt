@@ -8,3 +8,4 @@ pub mod UnsetLemmas
 pub mod LettingLemmas
 pub mod FittingLemmas
 pub mod SettingLemmas
+pub mod OrderLemmas

@@ -1,5 +1,5 @@
 -- Where a name is declared, in frames of which the last is the innermost.
-use Rattle.std.proofs.Common.{◌≡◌, ℕ, suc, ◌+◌, ◌-◌, ◌<◌, ◌≤◌, Bool, true, false, ◌||◌, if◌then◌else◌, List, [], ◌∷◌, ◌++◌, map, length, take, drop, get_or, set, Option, Some, None, refl, sym, ap, ◌∙◌, subst, arith, drop-cons}
+use Rattle.std.proofs.Common.{◌≡◌, ℕ, suc, ◌+◌, ◌<◌, true, false, ◌||◌, if◌then◌else◌, List, [], ◌∷◌, ◌++◌, length, take, drop, get_or, set, Option, Some, refl, sym, ap, ◌∙◌, subst, arith}
 use Rattle.std.specs.Prelude.{reverse, pos}
 use Rattle.std.proofs.lemmas.List.{reverse-append, take-append-drop, length-take-le, get_or_at, set_at, append_assoc, drop_more}
 use Rattle.apl_model.specs.Environment.{Bindings, Environment, declares, bound_in, bound_to, found_in, look_up, set_in_frames, declared_in, set_name, with_frame}

@@ -1,6 +1,5 @@
 -- Leaves that are let go: holders follow them.
-use Rattle.std.proofs.Common.{◌≡◌, ℕ, ◌+◌, ◌<◌, ◌≤◌, List, [], ◌∷◌, ◌++◌, map, String, Option, Some, None, refl, sym, ap, ◌∙◌, subst, inl, arith}
-use Rattle.std.specs.Prelude.{sum_by}
+use Rattle.std.proofs.Common.{◌≡◌, ℕ, ◌+◌, List, [], ◌∷◌, ◌++◌, String, Option, refl, sym, ap, inl, arith}
 use Rattle.std.proofs.lemmas.List.{map-append}
 use Rattle.std.proofs.lemmas.List.Sums.{sum_by-append, sum_by-cons}
 use Rattle.std.specs.Str.{chars}
@@ -10,7 +9,6 @@ use Rattle.array_store.specs.Came.{Renews}
 use Rattle.array_store.specs.Follows.{LeafCounts, Follows, Holds, none, both}
 use Rattle.array_store.proofs.FollowsLemmas.{follows_then, follows_beside, follows_counted}
 use Rattle.drag_along.specs.declared.leaves.Leaf.{Leaf}
-use Rattle.drag_along.specs.Nodes.{named_by_leaf}
 use Rattle.apl_model.specs.Environment.{Bindings}
 use Rattle.leaf_names.specs.Variables.{named_by_option, named_by_bindings}
 use Rattle.name_table.specs.Scopes.{bindings_of}

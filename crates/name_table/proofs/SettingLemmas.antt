@@ -1,11 +1,11 @@
 -- A name that is set: the names afterwards, and what they stand for.
-use Rattle.std.proofs.Common.{◌≡◌, ℕ, ◌+◌, ◌<◌, ◌≤◌, ℤ, List, Option, Some, None, refl, sym, ap, ◌∙◌, subst, arith}
+use Rattle.std.proofs.Common.{◌≡◌, ℕ, ◌+◌, ◌≤◌, ℤ, List, Option, refl, sym, ap, ◌∙◌, subst, arith}
 use Rattle.apl_base.specs.Array.{Array}
 use Rattle.array_store.specs.Stores.{StoreView, holders_of}
 use Rattle.array_store.specs.Follows.{LeafCounts, Follows, Holds, none, both}
 use Rattle.array_store.proofs.FollowsLemmas.{follows_then, follows_beside, follows_counted}
 use Rattle.drag_along.specs.declared.leaves.Leaf.{Leaf}
-use Rattle.drag_along.specs.Nodes.{leaf_shape, named_by_leaf}
+use Rattle.drag_along.specs.Nodes.{named_by_leaf}
 use Rattle.drag_along.specs.Lawful.{IsLawfulLeaf, SameData}
 use Rattle.drag_along.specs.Meaning.{leaf_array}
 use Rattle.drag_along.specs.Views.{StandsForArray}

@@ -1,17 +1,16 @@
 -- A table by texts, seen as bindings: what its calls answer and leave is what the definitions say.
-use Rattle.std.proofs.Common.{◌≡◌, ℕ, ◌+◌, ◌<◌, ◌≤◌, ◌^◌, Bool, true, false, ◌||◌, cond, if◌then◌else◌, List, [], ◌∷◌, ◌++◌, map, length, String, Option, Some, None, Result, Ok, Err, OnOk, OnErr, MatchResult, is_some, refl, sym, ap, ◌∙◌, subst, arith}
+use Rattle.std.proofs.Common.{◌≡◌, ℕ, ◌<◌, ◌^◌, Bool, true, false, ◌||◌, cond, if◌then◌else◌, List, [], ◌∷◌, length, String, Option, Some, None, Result, Ok, Err, OnOk, OnErr, MatchResult, is_some, refl, sym, ap, ◌∙◌, subst, arith}
 use Rattle.std.proofs.lemmas.List.{length-map}
 use Rattle.std.proofs.lemmas.Str.{encodes-chars}
 use Rattle.std.specs.Cmp.Lexicographic.{bytes_decides}
 use Rattle.std.specs.List.{AllByRecursion, IsDistinct}
-use Rattle.std.specs.Option.{option_and_then}
 use Rattle.std.specs.Map.{lookup, set_value}
 use Rattle.std.specs.Str.{bytes_eq, chars, IsUtf8}
 use Rattle.std.specs.String.{string_bytes, string_eq}
 use lib.Utf8.{encodes}
 use Rattle.indexmap.specs.IndexMap.{insert_entry}
 use Rattle.apl_model.specs.Environment.{Bindings, is_same_name, declares, bound_in, bound_to}
-use Rattle.name_table.specs.Scopes.{names_of, AreNames, bindings_of, IsTable}
+use Rattle.name_table.specs.Scopes.{AreNames, bindings_of, IsTable}
 use Rattle.name_table.proofs.BindingLemmas.{differ-bound_to, count-bound_to, count-rebound}
 
 -- texts are the same where their characters are

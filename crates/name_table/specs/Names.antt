@@ -3,7 +3,7 @@ use Rattle.std.specs.Prelude.{◌≡◌, ◌⊎◌, ℕ, ◌+◌, ◌<◌, List,
 use Rattle.apl_base.specs.Array.{size_of}
 use Rattle.array_store.specs.Stores.{StoreView, HasRoom, owner_at, new_owner}
 use Rattle.array_store.specs.Follows.{Follows}
-use Rattle.array_store.specs.Came.{Came, Renews}
+use Rattle.array_store.specs.Came.{Renews}
 use Rattle.array_store.specs.declared.ids.BeginFault.{BeginFault}
 use Rattle.array_store.specs.declared.ids.BeginFault.TheVariants as begin
 use Rattle.drag_along.specs.declared.leaves.Leaf.{Leaf}

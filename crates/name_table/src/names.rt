@@ -210,6 +210,13 @@ impl Names {
     {
         let_go(self.globals.unset(name), store);
     }
+
+    /// The globals that are set, in the order of their bytes.
+    pub fn set_names(&self) -> Result<Vec<Name>, NoMemory>
+        ensures { IfOk result (λ names. names.items ≡ in_byte_order (names_set self.now.globals)) }
+    {
+        self.globals.set_names(self.alloc)
+    }
 }
 
 // The place of the innermost frame that declares a name, where one does. The last frame is the innermost.

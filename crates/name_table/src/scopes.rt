@@ -129,6 +129,27 @@ impl Scope {
         given_back(self.table.insert(text, bound))
     }
 
+    // The names that are set, in the order of their bytes.
+    pub(crate) fn set_names(&self, alloc: Global) -> Result<Vec<Name>, NoMemory>
+        ensures { IfOk result (λ names. names.items ≡ in_byte_order (set_names self.now)) }
+    {
+        let mut texts = Vec::new(alloc);
+        for at in 0..self.table.len() {
+            let Some((text, bound)) = self.table.get_index(at) else {
+                unreachable!()
+            };
+            if bound.is_some() {
+                texts.push(text.as_str())?;
+            }
+        }
+        texts.sort()?;
+        let mut names = Vec::new(alloc);
+        for text in texts.as_slice() {
+            names.push(Name::of(alloc, text)?)?;
+        }
+        Ok(names)
+    }
+
     // Lets all leaves go.
     pub(crate) fn release(self, store: &mut Store)
         requires { Holds store.old (named_by_bindings self) }

@@ -1,4 +1,3 @@
-use Rattle.std.proofs.Common.{◌≡◌}
 use Rattle.name_table.proofs.PlaceLemmas.{NoneFrom}
 use Rattle.name_table.proofs.names.innermost.Given as goal
 

@@ -1,8 +1,7 @@
-use Rattle.std.proofs.Common.{◌≡◌, ℕ, ℤ, map, sym, ap, subst, ◌∙◌}
-use Rattle.array_store.specs.Stores.{StoreView}
+use Rattle.std.proofs.Common.{map, sym, ap, subst, ◌∙◌}
 use Rattle.drag_along.specs.declared.leaves.Leaf.{Leaf}
 use Rattle.drag_along.specs.Lawful.{IsLawfulLeaf}
-use Rattle.apl_model.specs.Environment.{Environment, with_frame}
+use Rattle.apl_model.specs.Environment.{Environment}
 use Rattle.apl_model.specs.Frames.{unset}
 use Rattle.leaf_names.specs.Variables.{named_by_names, EachLeaf, FillsOwner, variables_of}
 use Rattle.name_table.proofs.LettingLemmas.{variables-bound, bound-each, bound-named}

@@ -1,4 +1,3 @@
-use Rattle.std.proofs.Common.{◌≡◌, sym, ap, ◌∙◌}
 use Rattle.std.specs.Option.{option_copied}
 use Rattle.name_table.proofs.PlaceLemmas.{in_frame-found, global-found}
 use Rattle.name_table.proofs.names.Names.get.Goals as goal

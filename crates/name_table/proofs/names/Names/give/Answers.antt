@@ -1,4 +1,4 @@
-use Rattle.std.proofs.Common.{◌≡◌, Option, sym, ap, ◌∙◌, arith}
+use Rattle.std.proofs.Common.{Option, sym, ap, ◌∙◌, arith}
 use Rattle.drag_along.specs.declared.leaves.Leaf.{Leaf}
 use Rattle.apl_model.specs.Environment.{Environment}
 use Rattle.leaf_names.specs.Variables.{named_by_names, named_by_option}

@@ -1,4 +1,4 @@
-use Rattle.std.proofs.Common.{◌≡◌, true, false, Option, Some, None, IsSome, refl, sym, ap, ◌∙◌}
+use Rattle.std.proofs.Common.{◌≡◌, true, false, Option, Some, None, IsSome, sym, ◌∙◌}
 use Rattle.drag_along.specs.declared.leaves.Leaf.{Leaf}
 use Rattle.apl_model.specs.Environment.{look_up}
 use Rattle.name_table.proofs.BindingLemmas.{undeclared}

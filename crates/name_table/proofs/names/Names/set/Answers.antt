@@ -1,4 +1,4 @@
-use Rattle.std.proofs.Common.{◌≡◌, ℕ, Option, ap, arith}
+use Rattle.std.proofs.Common.{Option, ap, arith}
 use Rattle.drag_along.specs.declared.leaves.Leaf.{Leaf}
 use Rattle.leaf_names.specs.Variables.{named_by_option}
 use Rattle.leaf_names.proofs.CountLemmas.{look_up-named}

@@ -1,4 +1,4 @@
-use Rattle.std.proofs.Common.{◌≡◌, sym, ap, ◌∙◌}
+use Rattle.std.proofs.Common.{sym, ap, ◌∙◌}
 use Rattle.apl_model.specs.Environment.{declares}
 use Rattle.name_table.proofs.TableLemmas.{declares-table}
 use Rattle.name_table.proofs.scopes.Scope.declares.Goals as goal

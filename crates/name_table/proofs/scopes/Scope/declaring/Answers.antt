@@ -1,4 +1,3 @@
-use Rattle.std.proofs.Common.{◌≡◌, arith}
 use Rattle.name_table.proofs.UnsetLemmas.{next_is_new, next_is_unset}
 use Rattle.name_table.proofs.scopes.Scope.declaring.Goals as goal
 

@@ -1,4 +1,4 @@
-use Rattle.std.proofs.Common.{◌≡◌, sym, ap, ◌∙◌}
+use Rattle.std.proofs.Common.{sym, ap, ◌∙◌}
 use Rattle.std.specs.Option.{option_copied}
 use Rattle.apl_model.specs.Environment.{bound_in}
 use Rattle.name_table.proofs.TableLemmas.{flat, bound_in-table}

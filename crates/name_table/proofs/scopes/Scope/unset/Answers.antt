@@ -1,4 +1,4 @@
-use Rattle.std.proofs.Common.{◌≡◌, sym, ◌∙◌}
+use Rattle.std.proofs.Common.{sym, ◌∙◌}
 use Rattle.name_table.proofs.BindingLemmas.{undeclared}
 use Rattle.name_table.proofs.scopes.Scope.unset.Goals as goal
 
