@@ -1,4 +1,10 @@
+mod ArrayTexts
+mod ColumnWidths
+mod Layouts
+mod LeafTexts
 mod LineTexts
+mod Passes
 mod Pieces
+mod Reading
 mod ReportTexts
 mod Utf8

@@ -1,5 +1,5 @@
 -- Reports, as bytes.
-use Rattle.std.proofs.Common.{◌≡◌, ℕ, suc, ◌+◌, ◌-◌, List, [], ◌∷◌, ◌++◌, length, replicate, refl, sym, ap, ◌∙◌, subst, codes, decimal, append_assoc, length-append, arith, encode_utf8_all}
+use Rattle.std.proofs.Common.{◌≡◌, ℕ, ◌+◌, ◌-◌, List, [], ◌∷◌, ◌++◌, length, replicate, refl, sym, ap, ◌∙◌, subst, codes, decimal, append_assoc, length-append, arith, encode_utf8_all}
 use Rattle.std.proofs.lemmas.List.{replicate-append-replicate}
 use Rattle.std.specs.Str.{IsUtf8, chars}
 use Rattle.apl_base.specs.declared.faults.ErrorKind.{ErrorKind}

@@ -1,10 +1,10 @@
 -- Texts as bytes.
-use Rattle.std.proofs.Common.{◌≡◌, ℕ, ◌^◌, ◌<◌, Bool, true, false, ◌&&◌, nat_lt, List, [], ◌∷◌, ◌++◌, zero, suc, replicate, refl, ap, Result, Ok, Err, OnOk, sym, ◌∙◌, subst, append_assoc, codes, decimal, encode_utf8_all, arith}
+use Rattle.std.proofs.Common.{◌≡◌, ℕ, ◌^◌, ◌<◌, Bool, true, ◌&&◌, nat_lt, List, [], ◌∷◌, ◌++◌, zero, suc, replicate, refl, ap, Result, Ok, Err, OnOk, OnErr, sym, ◌∙◌, subst, append_assoc, decimal, encode_utf8_all, arith}
 use Rattle.std.proofs.lemmas.Bool.{and_parts, ltb-true}
 use Rattle.std.proofs.lemmas.Str.{chars-encodes, encode_ascii, encodes-append, encodes-IsAscii}
 use Rattle.std.proofs.lemmas.Fmt.{IsAscii-decimal}
 use Rattle.std.specs.List.{AllByRecursion, flat_map}
-use Rattle.std.specs.Str.{IsUtf8, IsAscii, chars}
+use Rattle.std.specs.Str.{IsUtf8, chars}
 use Rattle.apl_model.specs.Printed.{blank, newline}
 use Rattle.apl_print.specs.Lines.{line_of}
 
@@ -74,3 +74,12 @@ on-ok (Err e) P Q so p = tt
 -- the same bytes in another form
 pub adds-as : (old new a b : List ℕ) → Adds old new a → a ≡ b → Adds old new b
 adds-as old new a b p e = p ∙ ap (λ xs. old ++ encode_utf8_all xs) e
+
+-- what holds anyway holds of an error
+pub on-err : {T E : Type 0} (r : Result T E) (P : Type 0) → P → OnErr r P
+on-err (Ok x) P p = tt
+on-err (Err e) P p = p
+
+pub on-err-so : {T E : Type 0} (r : Result T E) (P Q : Type 0) → (P → Q) → OnErr r P → OnErr r Q
+on-err-so (Ok x) P Q so p = tt
+on-err-so (Err e) P Q so p = so p

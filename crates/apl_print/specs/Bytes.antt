@@ -8,3 +8,9 @@ pub record GainsPrefix (old new : Option (List ℕ)) (bytes : List ℕ) : Type 0
   pub rest : List ℕ
   pub whole : front ++ rest ≡ bytes
   pub gained : Gains old new front
+
+-- a sink gains the front of these bytes that the kept ones leave
+pub record Passes (old new : Option (List ℕ)) (bytes kept : List ℕ) : Type 0 where
+  pub front : List ℕ
+  pub whole : front ++ kept ≡ bytes
+  pub gained : Gains old new front

@@ -1,5 +1,5 @@
 -- An array's text element by element: each with what stands before it and behind it in its row.
-use Rattle.std.specs.Prelude.{ℕ, suc, ◌-◌, ◌==◌, nat_lt, ℤ, List, [], ◌∷◌, ◌++◌, length, max, slice_index_or, slice_set, if◌then◌else◌}
+use Rattle.std.specs.Prelude.{ℕ, suc, ◌-◌, ◌<◌, ◌≤◌, ◌==◌, nat_lt, ℤ, List, [], ◌∷◌, ◌++◌, length, max, slice_index_or, slice_set, if◌then◌else◌}
 use Rattle.apl_base.specs.declared.cells.Kind.{Kind}
 use Rattle.apl_model.specs.Printed.{between_cells, cell_text, newline, right_justified}
 use Rattle.apl_print.specs.declared.grids.Grid.{Grid}
@@ -17,11 +17,21 @@ rows_in lengths = if nat_lt (length lengths) 2 then 1 else slice_index_or length
 abbrev pub grid_of : Kind → List ℕ → Grid
 grid_of kind lengths = record { kind = kind; rows = rows_in lengths; columns = columns_in lengths }
 
+-- the text of an array of these lengths that has no elements: an empty line below two axes, else nothing
+abbrev pub text_of_none : List ℕ → List ℕ
+text_of_none lengths = if nat_lt (length lengths) 2 then newline else []
+
 -- ---- one element
 
 -- where the first element stands
 abbrev pub start : Spot
 start = record { row = 0; column = 0 }
+
+-- there are rows and columns, and the element stands in one of them
+pub record IsSpot (g : Grid) (at : Spot) : Type 0 where
+  pub rows : 0 < g.rows
+  pub row : at.row ≤ g.rows
+  pub column : at.column < g.columns
 
 -- how many rows of its plane stand above it: behind a plane's last row another plane begins
 abbrev pub rows_above : Grid → Spot → ℕ

@@ -1,14 +1,19 @@
 //! Printed text: arrays, reports, refusals and the lines of the trace.
 #![tactic(auto)]
 
+mod arrays;
+mod blocks;
 mod cells;
 mod costs;
+mod elements;
 mod faults;
 mod grids;
 mod lines;
 mod reports;
 mod sends;
+mod widths;
 
+pub use arrays::write_leaf;
 pub use costs::Cost;
 pub use faults::PrintFault;
 pub use lines::{write_cost, write_desc, write_refusal};

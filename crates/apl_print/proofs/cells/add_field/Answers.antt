@@ -1,4 +1,4 @@
-use Rattle.std.proofs.Common.{rules, ◌≡◌, ap, arith, string_bytes, replicate, length, ◌-◌}
+use Rattle.std.proofs.Common.{ap, arith, string_bytes, length, ◌-◌}
 use Rattle.apl_model.specs.Printed.{cell_text}
 use Rattle.apl_print.proofs.LineTexts.{blanks_are, justified_bytes, no_blanks}
 use Rattle.apl_print.proofs.Utf8.{on-ok}

@@ -1,4 +1,4 @@
-use Rattle.std.proofs.Common.{rules, ◌≡◌, string_bytes}
+use Rattle.std.proofs.Common.{string_bytes}
 use Rattle.apl_print.proofs.LineTexts.{numbers_bytes}
 use Rattle.apl_print.proofs.Utf8.{on-ok}
 use Rattle.apl_print.proofs.lines.add_numbers.Goals as goal

@@ -1,4 +1,4 @@
-use Rattle.std.proofs.Common.{rules, ◌≡◌, ◌∙◌, ap, map, pos, string_bytes, subst}
+use Rattle.std.proofs.Common.{◌∙◌, ap, map, pos, string_bytes, subst}
 use Rattle.array_desc.specs.Desc.{DescView}
 use Rattle.apl_model.specs.Printed.{number_text}
 use Rattle.apl_print.specs.Lines.{numbers_field}

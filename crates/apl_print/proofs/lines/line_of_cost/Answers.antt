@@ -1,4 +1,4 @@
-use Rattle.std.proofs.Common.{◌^◌, ◌<◌, arith}
+use Rattle.std.proofs.Common.{arith}
 use Rattle.apl_print.proofs.LineTexts.{cost_bytes}
 use Rattle.apl_print.proofs.lines.line_of_cost.Goals as goal
 

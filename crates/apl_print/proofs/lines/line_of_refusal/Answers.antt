@@ -1,4 +1,4 @@
-use Rattle.std.proofs.Common.{◌≡◌, ◌++◌, ◌∷◌, [], ◌^◌, ◌<◌, arith, ◌∙◌, ap, decimal, codes}
+use Rattle.std.proofs.Common.{◌++◌, ◌∷◌, [], arith, ◌∙◌, ap, decimal, codes}
 use Rattle.apl_print.proofs.LineTexts.{refusal_bytes}
 use Rattle.apl_print.proofs.lines.line_of_refusal.Goals as goal
 

@@ -1,4 +1,4 @@
-use Rattle.std.proofs.Common.{◌≡◌, string_bytes}
+use Rattle.std.proofs.Common.{string_bytes}
 use Rattle.std.specs.Str.{chars}
 use Rattle.apl_model.specs.Printed.{plain_prefix}
 use Rattle.apl_print.proofs.ReportTexts.{plain_bytes, pointed_bytes}

@@ -1,7 +1,5 @@
-use Rattle.std.proofs.Common.{◌≡◌, ◌∙◌, ap, sym, subst, string_bytes, suc}
-use Rattle.std.specs.Str.{chars}
+use Rattle.std.proofs.Common.{◌∙◌, ap, string_bytes, suc}
 use Rattle.apl_model.specs.Printed.{body_prefix, plain_prefix}
-use Rattle.apl_compile.specs.Running.{prefix_from, line_text_in}
 use Rattle.apl_print.proofs.ReportTexts.{report_in_bytes}
 use Rattle.apl_print.proofs.reports.text_of_report.Goals as goal
 use Rattle.apl_print.proofs.reports.text_of_report.Goals.{in-Some+in_ok-add_body_line-in-Some, in-None+in_ok-add_plain_line-in-None}
