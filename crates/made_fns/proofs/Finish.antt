@@ -1,6 +1,6 @@
 -- How a function that is made at once ends: with an error, without room, without memory, or with its leaf.
 use Rattle.std.proofs.Common.{◌≡◌, ℕ, ℤ, List, length, Result, Ok, Err, sym, ap, ◌∙◌, subst, All}
-use Rattle.std.specs.Result.{IsErrAnd}
+use Rattle.std.specs.Result.{IsErrAnd, IfErr}
 use Rattle.apl_base.specs.declared.faults.ErrorKind.{ErrorKind}
 use Rattle.apl_base.specs.declared.cells.Kind.{Kind}
 use Rattle.apl_base.specs.Array.{Array, IsArray}
@@ -54,3 +54,8 @@ same_array {l = l} {ns = ns} {ms = ms} {xs = xs} p q r =
     ap (λ (k : Kind). let a : Array = record { kind = k; shape = ns; cells = xs } in a) p
     ∙ ap (λ (zs : List ℕ). let a : Array = record { kind = l; shape = zs; cells = xs } in a) q
     ∙ ap (λ (zs : List ℤ). let a : Array = record { kind = l; shape = ms; cells = zs } in a) r
+
+-- what is so of an error is so of the result that is this error
+pub by_error : {T E : Type 0} (P : E → Type 0) (result : Result T E) (e : E) → IsErrAnd result (λ f. f ≡ e) → P e → IfErr result P
+by_error P (Ok x) e is h = absurd is
+by_error P (Err f) e is h = subst P (sym is) h

@@ -4,3 +4,4 @@ pub mod JoinLemmas
 pub mod Lengths
 pub mod Tests
 pub mod ScanLemmas
+pub mod ReshapeLemmas

@@ -5,8 +5,10 @@
 
 mod joins;
 mod leaves;
+mod reshapes;
 mod scans;
 mod vectors;
 
 pub use joins::catenate;
+pub use reshapes::reshape;
 pub use vectors::{iota, ravel, shape_of};

@@ -160,7 +160,7 @@ asked_room old answer a n is many room m asks =
     omega (arith, room, many, asks.2, ap (λ (b : Array). length b.cells) (one_array a asks.0 (sym is ∙ asks.1)))
 
 -- what was counted before the room was asked for leaves the live cells and the limit
-counted_room : (old now : StoreView) (n : ℕ) → OnlyCounted old now → HasRoom now n → HasRoom old n
+pub counted_room : (old now : StoreView) (n : ℕ) → OnlyCounted old now → HasRoom now n → HasRoom old n
 counted_room old now n only room = omega (arith, room, ap (λ (s : StoreView). s.live) only, ap (λ (s : StoreView). s.limit) only)
 
 pub room_counted : (old now : StoreView) (n : ℕ) → OnlyCounted old now → HasRoom old n → HasRoom now n
