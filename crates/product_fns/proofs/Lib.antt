@@ -1,1 +1,8 @@
 pub mod OuterLemmas
+pub mod PlaceLemmas
+pub mod FoldLemmas
+pub mod ReducedLemmas
+pub mod CountLemmas
+pub mod RowLemmas
+pub mod GroupLemmas
+pub mod AnswerLemmas

@@ -1,1 +1,3 @@
 pub mod Outer
+pub mod Folding
+pub mod Reduction
