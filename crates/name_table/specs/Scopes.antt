@@ -16,10 +16,11 @@ pub record AreNames {A : Type 0} (bindings : Bindings A) : Type 0 where
   pub differ : IsDistinct is_same_name (names_of bindings)
   pub few : length bindings < 2 ^ 64
 
--- so are the globals, and the names of each frame
+-- so are the globals, and the names of each frame; and there are fewer than 2^63 frames
 pub record AreAllNames {A : Type 0} (names : Environment A) : Type 0 where
   pub globals : AreNames names.globals
   pub frames : All AreNames names.frames
+  pub deep : length names.frames < 2 ^ 63
 
 -- ---- a table by texts
 
