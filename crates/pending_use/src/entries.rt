@@ -43,9 +43,7 @@ pub fn push_again(
     store: &mut Store,
 ) -> Result<(), NoMemory>
     requires lawful { IsLawfulLeaf store.old leaf.now }
-    requires segments { AllByRecursion IsSegment stack.old }
     requires few { HasFewBeside store.old stack.old }
-    ensures segments { AllByRecursion IsSegment stack.new }
     ensures pushed { OnOk result (Becomes store.old store.new stack.old stack.new
         (entries store.old stack.old
         ++ Means (leaf_array store.old (leaf_shape leaf.now) leaf.now) ∷ [])) }
@@ -74,9 +72,7 @@ pub fn push_entry_again(
 ) -> Result<bool, NoMemory>
     requires within { at < length stack.old }
     requires lawful { IsLawfulStack store.old stack.old }
-    requires segments { AllByRecursion IsSegment stack.old }
     requires few { HasFewBeside store.old stack.old }
-    ensures segments { AllByRecursion IsSegment stack.new }
     ensures exact { IfOk result (λ pushed. IsTrue pushed ↔ IsSoAt IsOneLeaf stack.old at) }
     ensures pushed { IfOk result (λ pushed. IsTrue pushed → (segment : SegmentView)
         → slice_get stack.old at ≡ Some segment → Becomes store.old store.new stack.old stack.new

@@ -1,5 +1,6 @@
 ghost use Rattle.std.specs.Prelude.{◌≡◌, ℕ, ◌+◌, ◌<◌, ◌∷◌, ◌++◌, [], Some, length, ◌↔◌, IsTrue, slice_get, slice_set, MatchOption, OnOk, OnErr};
-ghost use Rattle.drag_along.specs.Segments.{named_by};
+ghost use Rattle.std.specs.List.{AllByRecursion};
+ghost use Rattle.drag_along.specs.Segments.{named_by, IsSegment};
 ghost use Rattle.value_stack.specs.Stacks.{named_on, Reads, MayFail, IsLeastOrNone};
 
 use apl_base::NoMemory;
@@ -17,11 +18,14 @@ pub struct Stack {
 
 impl Model for Stack {
     ghost use Rattle.std.specs.Prelude.{List};
-    ghost use Rattle.drag_along.specs.Segments.{SegmentView};
+    ghost use Rattle.std.specs.List.{AllByRecursion};
+    ghost use Rattle.drag_along.specs.Segments.{SegmentView, IsSegment};
 
     ghost Value = { List SegmentView };
 
     ghost view = { λ s. s.entries.items };
+
+    ghost invariant = { λ s. AllByRecursion IsSegment s.entries.items };
 }
 
 impl Stack {
@@ -56,9 +60,10 @@ impl Stack {
         self.entries.pop()
     }
 
-    /// The number of entries.
+    /// The number of entries. Each is a segment.
     pub fn len(&self) -> usize
-        ensures { result ≡ length self.now }
+        ensures value { result ≡ length self.now }
+        ensures segments { AllByRecursion IsSegment self.now }
     {
         self.entries.len()
     }

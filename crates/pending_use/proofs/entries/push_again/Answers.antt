@@ -12,7 +12,7 @@ use Rattle.pending_use.proofs.entries.push_again.Goals as goal
 
 pub held-held-requires-clause-holders : goal.held-held-requires-clause-holders
 held-held-requires-clause-holders c = λ key named.
-    omega (arith, c.requires.few key, few_named c.args.stack.now key c.requires.segments, c.len-count.ensures, c.len-count.type_inv)
+    omega (arith, c.requires.few key, few_named c.args.stack.now key c.len-count.ensures.segments, c.len-count.ensures.value, c.len-count.type_inv)
 
 pub returns-in_default-clause-stays : goal.returns-in_default-clause-stays
 returns-in_default-clause-stays c =
