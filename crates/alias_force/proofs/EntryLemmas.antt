@@ -28,7 +28,7 @@ use Rattle.e_machine.specs.declared.faults.ForceFault.{ForceFault}
 use Rattle.e_machine.specs.declared.faults.ForceFault.TheVariants as force
 use Rattle.e_machine.specs.Forced.{elements_of, applications, fetches}
 use Rattle.leaf_names.proofs.KeptLemmas.{array_kept}
-use Rattle.alias_force.specs.Moving.{IsOwn, ComputesAll, CostsAtMost, OwnersCame, IsRefusedAt}
+use Rattle.alias_force.specs.Moving.{IsOwn, IsOwnOf, ComputesAll, CostsAtMost, OwnersCame, IsRefusedAt}
 use Rattle.alias_force.specs.Steps.{IsComputed, IsNotComputed, PutsLeaf, LetsGo, MovesEntry, RefusesEntry}
 
 -- ---- where holders only go, no owner comes
@@ -123,17 +123,17 @@ fresh_leaf old new g leaf is =
     }
 
 -- an owner that nobody held is not named by a segment whose leaves are held
-unnamed : (old : StoreView) (g : SegmentView) (key : ℕ) → Holds old (named_by g) → holders_of old key ≡ 0 → named_by g key ≡ 0
-unnamed old g key holds free = omega (arith, holds key, free)
+unnamed : (old : StoreView) (gone : LeafCounts) (key : ℕ) → Holds old gone → holders_of old key ≡ 0 → gone key ≡ 0
+unnamed old gone key holds free = omega (arith, holds key, free)
 
 pub one_of-self : (key : ℕ) → one_of key key ≡ 1
 one_of-self key = rw (eq-eqb key key refl) refl
 
-one_of-other : (key other : ℕ) → other ≢ key → one_of key other ≡ 0
+pub one_of-other : (key other : ℕ) → other ≢ key → one_of key other ≡ 0
 one_of-other key other differs = grind (arith, nat_tests)
 
 -- the owner that a leaf names is its own
-named_key : (key other : ℕ) → 0 < one_of key other → key ≡ other
+pub named_key : (key other : ℕ) → 0 < one_of key other → key ≡ other
 named_key key other named = elim (cases_eq other key) [
   | inl same ↦ sym same
   | inr differs ↦ absurd (omega (arith, named, one_of-other key other differs))
@@ -153,18 +153,18 @@ come_and_go old mid new g leaf range holds came gone =
     (follows_then old mid new (both (named_by g) none) (both (named_by g) (named_by_leaf leaf)) (both none (named_by_leaf leaf)) first second)
 
 -- after the leaves of the entry were let go, its owner is as it was made
-record IsLeft (mid new : StoreView) (a : Array) (leaf : Leaf) (key : ℕ) : Type 0 where
-  same : SameData mid new (named_by_leaf leaf)
-  alone : holders_of new key ≡ 1
-  cells : cells_of new key ≡ a.cells
-  interval : interval_of new key ≡ interval_of mid key
-  exact : interval_of mid key ≡ exact_interval a.cells
+pub record IsLeft (mid new : StoreView) (a : Array) (leaf : Leaf) (key : ℕ) : Type 0 where
+  pub same : SameData mid new (named_by_leaf leaf)
+  pub alone : holders_of new key ≡ 1
+  pub cells : cells_of new key ≡ a.cells
+  pub interval : interval_of new key ≡ interval_of mid key
+  pub exact : interval_of mid key ≡ exact_interval a.cells
 
-left : (old mid new : StoreView) (g : SegmentView) (a : Array) (leaf : Leaf) (fresh : IsFresh old mid a leaf) → Holds old (named_by g) → Follows mid new (named_by g) none → IsLeft mid new a leaf fresh.key
-left old mid new g a leaf fresh holds follows =
+pub left : (old mid new : StoreView) (gone : LeafCounts) (a : Array) (leaf : Leaf) (fresh : IsFresh old mid a leaf) → Holds old gone → Follows mid new gone none → IsLeft mid new a leaf fresh.key
+left old mid new gone a leaf fresh holds follows =
     let key : ℕ = fresh.key in
     let made : holders_of mid key ≡ 1 = ap (λ (o : OwnerView). o.holders) fresh.owner in
-    let apart : named_by g key ≡ 0 = unnamed old g key holds fresh.free in
+    let apart : gone key ≡ 0 = unnamed old gone key holds fresh.free in
     let kept : data_at new key ≡ data_at mid key = follows.kept key (omega (arith, made, apart)) in
     let now : holders_of new key ≡ 1 = omega (arith, follows.holders key, made, apart) in
     let its_own : (other : ℕ) → 0 < named_by_leaf leaf other → key ≡ other = λ other named. named_key key other (omega (arith, named, fresh.named other)) in
@@ -188,30 +188,34 @@ within_left mid new leaf range same lawful within =
 known_interval : (mid : StoreView) (key : ℕ) (shape : List ℕ) (kind : Kind) (leaf : Leaf) (range : Interval) → IsWholeView key shape kind leaf → IsLeafInterval mid leaf range → range ≡ interval_of mid key
 known_interval mid key shape kind leaf range view known = subst (λ (l : Leaf). IsLeafInterval mid l range) view.is known
 
-view_shape : (key : ℕ) (shape : List ℕ) (kind : Kind) (leaf : Leaf) → IsWholeView key shape kind leaf → leaf_shape leaf ≡ shape
+pub view_shape : (key : ℕ) (shape : List ℕ) (kind : Kind) (leaf : Leaf) → IsWholeView key shape kind leaf → leaf_shape leaf ≡ shape
 view_shape key shape kind leaf view = ap leaf_shape view.is ∙ view.whole.shape
 
-view_kind : (key : ℕ) (shape : List ℕ) (kind : Kind) (leaf : Leaf) → IsWholeView key shape kind leaf → leaf_kind leaf ≡ kind
+pub view_kind : (key : ℕ) (shape : List ℕ) (kind : Kind) (leaf : Leaf) → IsWholeView key shape kind leaf → leaf_kind leaf ≡ kind
 view_kind key shape kind leaf view = ap leaf_kind view.is
+
+-- the leaf has an owner of its own
+pub own_of : (old mid new : StoreView) (a : Array) (leaf : Leaf) (fresh : IsFresh old mid a leaf) → IsLeft mid new a leaf fresh.key → IsOwnOf new fresh.key a.shape
+own_of old mid new a leaf fresh now = record {
+  fills = record { live = omega (arith, now.alone); count = ap length now.cells ∙ fresh.count };
+  alone = now.alone;
+  exact = now.interval ∙ now.exact ∙ ap exact_interval (sym now.cells);
+}
 
 -- the entry that comes has an owner of its own
 own_entry : (old mid new : StoreView) (a : Array) (leaf : Leaf) (range : Interval) (fresh : IsFresh old mid a leaf) → IsLeft mid new a leaf fresh.key → IsLeafInterval mid leaf range → IsOwn new (leaf_segment leaf range)
-own_entry old mid new a leaf range fresh left known =
+own_entry old mid new a leaf range fresh kept_so known =
     let key : ℕ = fresh.key in
     let shape : leaf_shape leaf ≡ a.shape = view_shape key a.shape a.kind leaf fresh.view in
     let kind : leaf_kind leaf ≡ a.kind = view_kind key a.shape a.kind leaf fresh.view in
-    let kept : range ≡ interval_of new key = known_interval mid key a.shape a.kind leaf range fresh.view known ∙ sym left.interval in
+    let kept : range ≡ interval_of new key = known_interval mid key a.shape a.kind leaf range fresh.view known ∙ sym kept_so.interval in
     let shaped : IsWholeView key (leaf_shape leaf) a.kind leaf = subst (λ (ns : List ℕ). IsWholeView key ns a.kind leaf) (sym shape) fresh.view in
     record {
       key = key;
       leaf = leaf;
       is = ap (leaf_segment leaf) kept;
       view = subst (λ (k : Kind). IsWholeView key (leaf_shape leaf) k leaf) (sym kind) shaped;
-      own = record {
-        fills = record { live = omega (arith, left.alone); count = ap length left.cells ∙ fresh.count ∙ ap size_of (sym shape) };
-        alone = left.alone;
-        exact = left.interval ∙ left.exact ∙ ap exact_interval (sym left.cells);
-      };
+      own = subst (IsOwnOf new key) (sym shape) (own_of old mid new a leaf fresh kept_so);
     }
 
 -- it means the array
@@ -263,7 +267,7 @@ moves_entry old mid new before after at g leaf there segment holds is follows pu
     let fresh = fresh_leaf old mid g leaf is in
     let same_gone : puts.gone ≡ g = (let e : Some puts.gone ≡ Some g = sym puts.there ∙ there in cc) in
     let let_go : Follows mid new (named_by g) none = subst (λ (x : SegmentView). Follows mid new (named_by x) none) same_gone puts.follows in
-    let left = left old mid new g is.array leaf fresh holds let_go in
+    let left = left old mid new (named_by g) is.array leaf fresh holds let_go in
     let shape : leaf_shape leaf ≡ is.array.shape = view_shape fresh.key is.array.shape is.array.kind leaf fresh.view in
     let came : SegmentView = leaf_segment leaf puts.range in
     record {

@@ -112,17 +112,25 @@ passes_by test old now before stack at g way there is_not =
 
 -- ---- an entry that is moved
 
+-- no leaf comes to an owner that is held once, but for one that goes
+abbrev pub ComesElsewhere : StoreView → LeafCounts → LeafCounts → Type 0
+ComesElsewhere s gone came = (key : ℕ) → holders_of s key ≡ 1 → gone key ≡ 0 → came key ≡ 0
+
+-- as where one comes to an owner that nobody held
+pub to_free : (s : StoreView) (gone came : LeafCounts) → ((key : ℕ) → 0 < came key → holders_of s key ≡ 0) → ComesElsewhere s gone came
+to_free s gone came free key once none_gone = elim (cases_lt 0 (came key)) [
+  | inl some ↦ absurd (omega (arith, free key some, once))
+  | inr few ↦ omega (arith, few)
+]
+
 -- an owner that an entry alone holds is named by no other one, and stays as it is
-own_kept : (s t : StoreView) (y : SegmentView) (gone came : LeafCounts) → IsOwn s y → Holds s (both (named_by y) gone) → Follows s t gone came → ((key : ℕ) → 0 < came key → holders_of s key ≡ 0) → IsOwn t y
-own_kept s t y gone came own holds follows free =
+own_kept : (s t : StoreView) (y : SegmentView) (gone came : LeafCounts) → IsOwn s y → Holds s (both (named_by y) gone) → Follows s t gone came → ComesElsewhere s gone came → IsOwn t y
+own_kept s t y gone came own holds follows elsewhere =
     let key : ℕ = own.key in
     let by_leaf : named_by_leaf own.leaf key ≡ 1 = ap (λ (l : Leaf). named_by_leaf l key) own.view.is ∙ one_of-self key in
     let named : named_by y key ≡ 1 = omega (arith, ap (λ (x : SegmentView). named_by x key) own.is, by_leaf) in
     let apart : gone key ≡ 0 = omega (arith, holds key, own.own.alone, named) in
-    let none_came : came key ≡ 0 = elim (cases_lt 0 (came key)) [
-      | inl some ↦ absurd (omega (arith, free key some, own.own.alone))
-      | inr few ↦ omega (arith, few)
-    ] in
+    let none_came : came key ≡ 0 = elsewhere key own.own.alone apart in
     let kept : data_at t key ≡ data_at s key = follows.kept key (omega (arith, apart, own.own.alone)) in
     let cells : cells_of t key ≡ cells_of s key = cells_of-kept s t key kept in
     let interval : interval_of t key ≡ interval_of s key = interval_of-kept s t key kept in
@@ -139,16 +147,16 @@ own_kept s t y gone came own holds follows free =
       };
     }
 
-pub all_kept : (test : SegmentView → Bool) (s t : StoreView) (xs ys : List SegmentView) (gone came : LeafCounts) → AreMoved test s xs ys → Holds s (both (named_on ys) gone) → Follows s t gone came → ((key : ℕ) → 0 < came key → holders_of s key ≡ 0) → AreMoved test t xs ys
-all_kept test s t [] [] gone came all holds follows free = tt
-all_kept test s t [] (y ∷ ys) gone came all holds follows free = all
-all_kept test s t (x ∷ xs) [] gone came all holds follows free = all
-all_kept test s t (x ∷ xs) (y ∷ ys) gone came all holds follows free = (
+pub all_kept : (test : SegmentView → Bool) (s t : StoreView) (xs ys : List SegmentView) (gone came : LeafCounts) → AreMoved test s xs ys → Holds s (both (named_on ys) gone) → Follows s t gone came → ComesElsewhere s gone came → AreMoved test t xs ys
+all_kept test s t [] [] gone came all holds follows elsewhere = tt
+all_kept test s t [] (y ∷ ys) gone came all holds follows elsewhere = all
+all_kept test s t (x ∷ xs) [] gone came all holds follows elsewhere = all
+all_kept test s t (x ∷ xs) (y ∷ ys) gone came all holds follows elsewhere = (
   record {
-    own = λ so. own_kept s t y gone came (all.0.own so) (λ key. omega (arith, holds key, named_on-cons y ys key)) follows free;
+    own = λ so. own_kept s t y gone came (all.0.own so) (λ key. omega (arith, holds key, named_on-cons y ys key)) follows elsewhere;
     same = all.0.same;
   },
-  all_kept test s t xs ys gone came all.1 (λ key. omega (arith, holds key, named_on-cons y ys key)) follows free,
+  all_kept test s t xs ys gone came all.1 (λ key. omega (arith, holds key, named_on-cons y ys key)) follows elsewhere,
 )
 
 -- one cost after another
@@ -210,7 +218,7 @@ moves_on test old now next before stack after at way m is_so =
     (λ key. ap (λ (xs : List SegmentView). named_on xs key) is ∙ named_on_parts way.moved rest c key)
     (follows_beside now next (named_by g) (named_by c) others m.follows) in
     let kept : AreMoved test next way.older way.moved =
-    all_kept test now next way.older way.moved (named_by g) (named_by c) way.are_moved (λ key. omega (arith, holds key, named_on_parts way.moved rest g key)) m.follows m.free in
+    all_kept test now next way.older way.moved (named_by g) (named_by c) way.are_moved (λ key. omega (arith, holds key, named_on_parts way.moved rest g key)) m.follows (to_free now (named_by g) (named_by c) m.free) in
     record {
       older = way.older ++ g ∷ [];
       moved = way.moved ++ c ∷ [];
@@ -256,7 +264,7 @@ stops test old now next before stack at fault small way r is_so =
       younger = rest;
       before_is = way.before_is ∙ ap (λ (xs : List SegmentView). way.older ++ xs) seam.1;
       after_is = was;
-      are_moved = all_kept test now next way.older way.moved none none way.are_moved holds r.follows (λ key some. absurd (omega (arith, some)));
+      are_moved = all_kept test now next way.older way.moved none none way.are_moved holds r.follows (λ key once none_gone. refl);
       tested = is_so;
       refused = r.refused;
       costs = costs_then old now next (filter test way.older) (g ∷ []) (computes_costs old now (filter test way.older) small way.computes) r.costs;

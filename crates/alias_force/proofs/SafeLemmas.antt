@@ -1,5 +1,6 @@
 -- Entries that may not fail: each means an array.
-use Rattle.std.proofs.Common.{◌≡◌, ℕ, zero, suc, Bool, true, false, List, [], ◌∷◌, ◌++◌, map, None, refl, sym, ap, ◌∙◌, subst, arith}
+use Rattle.std.specs.List.{filter}
+use Rattle.std.proofs.Common.{◌≡◌, ℕ, zero, suc, Bool, true, false, cond, List, [], ◌∷◌, ◌++◌, map, None, refl, sym, ap, ◌∙◌, subst, arith}
 use Rattle.std.specs.Prelude.{IsTrue, Result, Ok, Err, IfErr}
 use Rattle.std.proofs.lemmas.List.{map-append}
 use Rattle.apl_base.specs.declared.faults.Place.{Place}
@@ -15,13 +16,13 @@ use Rattle.e_machine.specs.declared.faults.ForceFault.TheVariants as force
 use Rattle.alias_force.specs.Moving.{IsMoved, AreMoved, may_fail, StopsAt, FaultsFirst, IsOldestFault}
 
 -- no entry of a stack may fail
-abbrev IsSafe : List SegmentView → Type 0
+abbrev pub IsSafe : List SegmentView → Type 0
 IsSafe stack = IsLeastOrNone MayFail stack 0 None
 
-safe_rest : (g : SegmentView) (stack : List SegmentView) → IsSafe (g ∷ stack) → IsSafe stack
+pub safe_rest : (g : SegmentView) (stack : List SegmentView) → IsSafe (g ∷ stack) → IsSafe stack
 safe_rest g stack safe = λ k low so. safe (suc k) (omega arith) so
 
-safe_first : (g : SegmentView) (stack : List SegmentView) → IsSafe (g ∷ stack) → g.may_fail ≡ false
+pub safe_first : (g : SegmentView) (stack : List SegmentView) → IsSafe (g ∷ stack) → g.may_fail ≡ false
 safe_first g stack safe = by g.may_fail (λ so. safe 0 (omega arith) (g, refl, so))
   where
     by : (b : Bool) → (IsTrue b → ⊥) → b ≡ false
@@ -29,7 +30,7 @@ safe_first g stack safe = by g.may_fail (λ so. safe 0 (omega arith) (g, refl, s
     by false never = refl
 
 -- the oldest entry may not fail, nor any other
-safe_cons : (g : SegmentView) (stack : List SegmentView) → g.may_fail ≡ false → IsSafe stack → IsSafe (g ∷ stack)
+pub safe_cons : (g : SegmentView) (stack : List SegmentView) → g.may_fail ≡ false → IsSafe stack → IsSafe (g ∷ stack)
 safe_cons g stack first rest zero low so = let is : g ≡ so.0 = (let e = so.1 in cc) in absurd (not_both g.may_fail first (subst MayFail (sym is) so.2))
   where
     not_both : (b : Bool) → b ≡ false → IsTrue b → ⊥
@@ -93,3 +94,9 @@ oldest_fault old new before after force.NoMemory lawful means stops = tt
 pub if_err_weaker : {A E : Type 0} (r : Result A E) (P Q : E → Type 0) → ((e : E) → P e → Q e) → IfErr r P → IfErr r Q
 if_err_weaker (Ok x) P Q follows h = tt
 if_err_weaker (Err e) P Q follows h = follows e h
+
+-- none is to be settled
+pub safe_is_settled : (stack : List SegmentView) → IsSafe stack → filter may_fail stack ≡ []
+safe_is_settled [] safe = refl
+safe_is_settled (g ∷ stack) safe =
+    ap (λ (b : Bool). cond b (g ∷ filter may_fail stack) (filter may_fail stack)) (safe_first g stack safe) ∙ safe_is_settled stack (safe_rest g stack safe)

@@ -1,4 +1,5 @@
 pub mod Desk
 pub mod Moving
 pub mod Steps
+pub mod Writing
 pub mod Laws

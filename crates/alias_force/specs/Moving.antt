@@ -15,8 +15,8 @@ use Rattle.e_machine.specs.declared.faults.ForceFault.{ForceFault}
 use Rattle.e_machine.specs.declared.faults.ForceFault.TheVariants as force
 use Rattle.e_machine.specs.Forced.{elements_of, applications, fetches}
 
--- a leaf that alone holds an owner and reads all of it; the owner has just its elements, in their exact interval
-pub record HasOwn (store : StoreView) (key : ℕ) (leaf : Leaf) (shape : List ℕ) : Type 0 where
+-- an owner that is held once, which has just the elements of this shape, in their exact interval
+pub record IsOwnOf (store : StoreView) (key : ℕ) (shape : List ℕ) : Type 0 where
   pub fills : FillsShape store key shape
   pub alone : holders_of store key ≡ 1
   pub exact : interval_of store key ≡ exact_interval (cells_of store key)
@@ -27,7 +27,7 @@ pub record IsOwn (store : StoreView) (segment : SegmentView) : Type 0 where
   pub leaf : Leaf
   pub is : segment ≡ leaf_segment leaf (interval_of store key)
   pub view : IsWholeView key segment.shape segment.kind leaf
-  pub own : HasOwn store key leaf segment.shape
+  pub own : IsOwnOf store key segment.shape
 
 -- an entry at which the test is true has an owner of its own afterwards; any other is as it was
 pub record IsMoved (test : SegmentView → Bool) (store : StoreView) (before after : SegmentView) : Type 0 where

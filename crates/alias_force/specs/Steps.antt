@@ -1,11 +1,13 @@
 -- One entry on its way to an owner of its own.
 use Rattle.std.specs.Prelude.{◌≡◌, ℕ, ◌-◌, ◌<◌, Bool, nat_lt, List, [], ◌∷◌, length, Some, slice_get, slice_set}
 use Rattle.apl_base.specs.declared.cells.Interval.{Interval}
-use Rattle.apl_base.specs.Array.{Array}
+use Rattle.apl_base.specs.Array.{Array, size_of}
+use Rattle.array_desc.specs.Desc.{IsWhole}
 use Rattle.array_store.specs.Stores.{StoreView, HasRoom, holders_of, cells_of}
 use Rattle.array_store.specs.Counting.{OnlyComputed, IsFull}
 use Rattle.array_store.specs.Follows.{Follows, none}
 use Rattle.drag_along.specs.declared.leaves.Leaf.{Leaf}
+use Rattle.drag_along.specs.declared.leaves.Leaf.TheVariants.{Stored, Gen}
 use Rattle.drag_along.specs.Nodes.{named_by_leaf}
 use Rattle.drag_along.specs.Segments.{SegmentView, named_by, leaf_segment}
 use Rattle.drag_along.specs.Meaning.{Means, entry}
@@ -77,3 +79,14 @@ pub record PutsLeaf (old new : StoreView) (before after : List SegmentView) (at 
 pub record LetsGo (old new : StoreView) (leaf : Leaf) : Type 0 where
   pub follows : Follows old new (named_by_leaf leaf) none
   pub live : (key : ℕ) → 0 < named_by_leaf leaf key → new.live ≡ old.live - length (cells_of old key)
+
+-- a refusal that is no fault
+abbrev pub IsNoFault : ForceFault → Type 0
+IsNoFault (force.Fault place) = ⊥
+IsNoFault (force.WsFull live asked) = Unit {0}
+IsNoFault force.NoMemory = Unit {0}
+
+-- the leaf reads the cells of its owner in their order, and all of them
+abbrev pub ReadsAll : StoreView → Leaf → Type 0
+ReadsAll store (Stored owner desc kind) = IsWhole desc.shape desc × (length (cells_of store owner) ≡ size_of desc.shape)
+ReadsAll store (Gen desc kind) = ⊥

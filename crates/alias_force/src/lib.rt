@@ -6,8 +6,10 @@ mod laws;
 mod moving;
 mod passes;
 mod settling;
+mod writing;
 
 pub use holders::Holder;
-pub use laws::desk_laws;
+pub use laws::{desk_laws, idle_laws};
 pub use moving::move_entry;
 pub use settling::settle;
+pub use writing::before_write;

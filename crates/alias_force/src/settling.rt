@@ -1,4 +1,4 @@
-ghost use Rattle.std.specs.Prelude.{◌≡◌, None, OnOk, IfErr, map};
+ghost use Rattle.std.specs.Prelude.{◌≡◌, [], None, OnOk, IfErr, map};
 ghost use Rattle.std.specs.List.{filter};
 ghost use Rattle.array_store.specs.Stores.{IsStore};
 ghost use Rattle.array_store.specs.Follows.{Follows, Holds};
@@ -24,6 +24,7 @@ pub fn settle(alloc: Global, stack: &mut Stack, store: &mut Store) -> Result<(),
         (ComputesAll store.old store.new (filter may_fail stack.old) 0) }
     ensures came { OnOk result
         (OwnersCame store.old store.new (map elements_of (filter may_fail stack.old))) }
+    ensures idle { OnOk result (filter may_fail stack.old ≡ [] → store.new ≡ store.old) }
     ensures refused { IfErr result
         (StopsAt may_fail store.old store.new stack.old stack.new) }
     ensures oldest { IfErr result (IsOldestFault (entries store.old stack.old)) }

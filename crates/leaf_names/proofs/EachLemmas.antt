@@ -3,6 +3,7 @@ use Rattle.std.proofs.Common.{◌≡◌, ℕ, Bool, true, false, if◌then◌els
 use Rattle.std.specs.Option.{ForSome}
 use Rattle.std.specs.List.{AllByRecursion}
 use Rattle.std.specs.Cmp.Lexicographic.{same_text}
+use Rattle.std.proofs.lemmas.Cmp.{nat_list_eq_equiv}
 use Rattle.drag_along.specs.declared.leaves.Leaf.{Leaf}
 use Rattle.apl_model.specs.Environment.{Bindings, Environment, is_same_name, declares, bound_in, bound_to, found_in, look_up, set_in_frames, declared_in, set_name, unset_global}
 use Rattle.leaf_names.specs.Variables.{AllBound, EachLeaf}
@@ -89,3 +90,39 @@ set_again names name leaf found = by (declared_in names.frames name) refl
     by : (t : Bool) → declared_in names.frames name ≡ t → (if t then record names { frames = set_in_frames names.frames name leaf } else record names { globals = bound_to names.globals name (Some leaf) }) ≡ names
     by true e = ap (λ (fs : List (Bindings Leaf)). record names { frames = fs }) (again_in_frames names.frames names.globals name leaf e found)
     by false e = ap (λ (gs : Bindings Leaf). record names { globals = gs }) (again_in names.globals name leaf (sym (not_in_frames names.frames names.globals name e) ∙ found))
+
+-- ---- set, then found
+
+same_self : (name : List ℕ) → is_same_name name name ≡ true
+same_self name = nat_list_eq_equiv.refl name
+
+bound_to-found : (bs : Bindings Leaf) (name : List ℕ) (leaf : Leaf) → bound_in (bound_to bs name (Some leaf)) name ≡ Some leaf
+bound_to-found [] name leaf = ap (λ (t : Bool). if t then Some leaf else None) (same_self name)
+bound_to-found (b ∷ bs) name leaf = by (is_same_name b.0 name) refl (bound_to-found bs name leaf)
+  where
+    by : (t : Bool) → is_same_name b.0 name ≡ t → bound_in (bound_to bs name (Some leaf)) name ≡ Some leaf → bound_in (if t then (name, Some leaf) ∷ bs else b ∷ bound_to bs name (Some leaf)) name ≡ Some leaf
+    by true e rest = ap (λ (t : Bool). if t then Some leaf else bound_in bs name) (same_self name)
+    by false e rest = ap (λ (t : Bool). if t then b.1 else bound_in (bound_to bs name (Some leaf)) name) e ∙ rest
+
+bound_to-declares : (bs : Bindings Leaf) (name : List ℕ) (leaf : Leaf) → declares (bound_to bs name (Some leaf)) name ≡ true
+bound_to-declares [] name leaf = ap (λ (t : Bool). t || false) (same_self name)
+bound_to-declares (b ∷ bs) name leaf = by (is_same_name b.0 name) refl (bound_to-declares bs name leaf)
+  where
+    by : (t : Bool) → is_same_name b.0 name ≡ t → declares (bound_to bs name (Some leaf)) name ≡ true → declares (if t then (name, Some leaf) ∷ bs else b ∷ bound_to bs name (Some leaf)) name ≡ true
+    by true e rest = ap (λ (t : Bool). t || declares bs name) (same_self name)
+    by false e rest = ap (λ (t : Bool). t || declares (bound_to bs name (Some leaf)) name) e ∙ rest
+
+set_in_frames-found : (fs : List (Bindings Leaf)) (globals : Bindings Leaf) (name : List ℕ) (leaf : Leaf) → declared_in fs name ≡ true → found_in (set_in_frames fs name leaf) globals name ≡ Some leaf
+set_in_frames-found [] globals name leaf has = absurd (cc)
+set_in_frames-found (f ∷ fs) globals name leaf has = by (declares f name) refl (set_in_frames-found fs globals name leaf) has
+  where
+    by : (t : Bool) → declares f name ≡ t → (declared_in fs name ≡ true → found_in (set_in_frames fs name leaf) globals name ≡ Some leaf) → t || declared_in fs name ≡ true → found_in (if t then bound_to f name (Some leaf) ∷ fs else f ∷ set_in_frames fs name leaf) globals name ≡ Some leaf
+    by true e rest h = ap (λ (t : Bool). if t then bound_in (bound_to f name (Some leaf)) name else found_in fs globals name) (bound_to-declares f name leaf) ∙ bound_to-found f name leaf
+    by false e rest h = ap (λ (t : Bool). if t then bound_in f name else found_in (set_in_frames fs name leaf) globals name) e ∙ rest h
+
+pub set_name-found : (names : Environment Leaf) (name : List ℕ) (leaf : Leaf) → look_up (set_name names name leaf) name ≡ Some leaf
+set_name-found names name leaf = by (declared_in names.frames name) refl
+  where
+    by : (t : Bool) → declared_in names.frames name ≡ t → look_up (if t then record names { frames = set_in_frames names.frames name leaf } else record names { globals = bound_to names.globals name (Some leaf) }) name ≡ Some leaf
+    by true e = set_in_frames-found names.frames names.globals name leaf e
+    by false e = not_in_frames names.frames (bound_to names.globals name (Some leaf)) name e ∙ bound_to-found names.globals name leaf
