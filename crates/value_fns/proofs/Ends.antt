@@ -1,11 +1,11 @@
 -- How a function that is made at once ends: without room, without memory, or with the leaf of its answer.
-use Rattle.std.proofs.Common.{◌≡◌, ℕ, ℤ, List, Bool, true, false, length, Result, Ok, Err, refl, sym, ap, subst}
+use Rattle.std.proofs.Common.{◌≡◌, ℕ, ℤ, List, Bool, true, false, length, Result, Ok, Err, refl, sym, ap, ◌∙◌, subst, arith}
 use Rattle.std.specs.Result.{IsErrAnd}
 use Rattle.apl_base.specs.declared.cells.Kind.{Kind}
 use Rattle.apl_base.specs.declared.faults.ErrorKind.{ErrorKind}
 use Rattle.apl_base.specs.Array.{Array, IsArray}
 use Rattle.array_store.specs.Stores.{StoreView, HasRoom}
-use Rattle.array_store.specs.Counting.{OnlyFetched}
+use Rattle.array_store.specs.Counting.{OnlyCounted, OnlyFetched}
 use Rattle.array_store.proofs.CountingLemmas.{OnlyFetched-none}
 use Rattle.drag_along.specs.declared.leaves.Leaf.{Leaf}
 use Rattle.e_machine.specs.Forced.{IsNewLeaf}
@@ -48,3 +48,34 @@ stops e b next h = ap (λ (t : Bool). error_if e t next) h
 -- an array that is the answer is lawful where the answer is
 pub lawful_array : (answer : Answer) (a : Array) → answer ≡ Ok a → IsAnswer answer → IsArray a
 lawful_array answer a is h = subst IsAnswer is h
+
+room_before : (old now : StoreView) (n : ℕ) → OnlyCounted old now → HasRoom now n → HasRoom old n
+room_before old now n only room = omega (arith, room, ap (λ (s : StoreView). s.live) only, ap (λ (s : StoreView). s.limit) only)
+
+-- what is made after some cells were fetched is made by the whole
+pub widened : (old between new : StoreView) (answer later : Answer) (most : ℕ) (r : Result Leaf MadeFault) → answer ≡ later → OnlyFetched old between most → IsMadeBy (λ s. s ≡ between) between new later r → IsMadeBy (Fetched old most) old new answer r
+widened old between new answer later most (Ok leaf) same f made = record {
+  array = made.array;
+  is = same ∙ made.is;
+  comes = record {
+    key = made.comes.key;
+    count = made.comes.count;
+    view = made.comes.view;
+    made = record { between = made.comes.made.between; counts = subst (Fetched old most) (sym made.comes.made.counts) f; makes = made.comes.made.makes };
+  };
+}
+widened old between new answer later most (Err (made.Error kind)) same f h = record {
+  is = same ∙ h.is;
+  room = λ n asks. room_before old between n f.only (h.room n (asks.0, sym same ∙ asks.1, asks.2));
+  counted = subst (Fetched old most) (sym h.counted) f;
+}
+widened old between new answer later most (Err (made.WsFull live asked)) same f h = record {
+  asks = (h.asks.0, same ∙ h.asks.1, h.asks.2);
+  held = h.held ∙ ap (λ (s : StoreView). s.live) f.only;
+  full = omega (arith, h.full, ap (λ (s : StoreView). s.live) f.only, ap (λ (s : StoreView). s.limit) f.only);
+  counted = subst (Fetched old most) (sym h.counted) f;
+}
+widened old between new answer later most (Err made.NoMemory) same f h = record {
+  room = λ n asks. room_before old between n f.only (h.room n (asks.0, sym same ∙ asks.1, asks.2));
+  counted = subst (Fetched old most) (sym h.counted) f;
+}

@@ -5,3 +5,4 @@ pub mod FoundKinds
 pub mod Ends
 pub mod Looked
 pub mod Graded
+pub mod Decoding

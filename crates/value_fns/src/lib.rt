@@ -1,11 +1,13 @@
 //! Functions made at once whose answers depend on the values of their arguments.
 #![tactic(auto)]
 
+mod decodes;
 mod grades;
 mod kinds;
 mod memberships;
 mod orders;
 mod searches;
 
+pub use decodes::decode;
 pub use grades::grade;
 pub use memberships::{index_of, member};
