@@ -272,32 +272,6 @@ stops test old now next before stack at fault small way r is_so =
           (came_then old now next (map elements_of (filter test way.older)) [] way.came (record { came = []; renews = renews_gone now next none r.follows; cells = refl }));
     }
 
--- ---- its end
-
--- no entry is left
-none_left : (moved younger : List SegmentView) (n : ℕ) → length (moved ++ younger) ≤ n → length moved ≡ n → younger ≡ []
-none_left moved [] n long place = refl
-none_left moved (g ∷ younger) n long place = absurd (omega (arith, long, place, length-append moved (g ∷ younger)))
-
--- all entries were looked at
-pub record IsThrough (test : SegmentView → Bool) (old now : StoreView) (before stack : List SegmentView) : Type 0 where
-  pub are_moved : AreMoved test now before stack
-  pub computes : ComputesAll old now (filter test before) 0
-  pub came : OwnersCame old now (map elements_of (filter test before))
-  pub idle : filter test before ≡ [] → now ≡ old
-
-pub through : (test : SegmentView → Bool) (old now : StoreView) (before stack : List SegmentView) (at : ℕ) → length stack ≤ at → IsOnItsWay test old now before stack at → IsThrough test old now before stack
-through test old now before stack at long way =
-    let none_younger : way.younger ≡ [] = none_left way.moved way.younger at (omega (arith, long, ap length way.stack_is)) way.place in
-    let all : before ≡ way.older = way.before_is ∙ ap (λ (xs : List SegmentView). way.older ++ xs) none_younger ∙ append-nil way.older in
-    let whole : stack ≡ way.moved = way.stack_is ∙ ap (λ (xs : List SegmentView). way.moved ++ xs) none_younger ∙ append-nil way.moved in
-    record {
-      are_moved = subst (λ (xs : List SegmentView). AreMoved test now xs stack) (sym all) (subst (AreMoved test now way.older) (sym whole) way.are_moved);
-      computes = subst (λ (xs : List SegmentView). ComputesAll old now (filter test xs) 0) (sym all) way.computes;
-      came = subst (λ (xs : List SegmentView). OwnersCame old now (map elements_of (filter test xs))) (sym all) way.came;
-      idle = λ e. way.idle (ap (filter test) (sym all) ∙ e);
-    }
-
 -- ---- the entry at a place
 
 -- its leaves are held

@@ -1,6 +1,6 @@
 //! A name that is to be written in place.
 
-ghost use Rattle.std.specs.Prelude.{◌≡◌, ◌⊎◌, ◌↔◌, ℕ, ℤ, None, Some, IsTrue, IsSome, IfOk, IfErr, OnOk, OnErr, MatchOption};
+ghost use Rattle.std.specs.Prelude.{◌≡◌, ◌⊎◌, ◌↔◌, ◌<◌, ℕ, ℤ, None, Some, IsTrue, IsSome, IfOk, IfErr, OnOk, OnErr, MatchOption};
 ghost use Rattle.array_store.specs.Stores.{IsStore, holders_of};
 ghost use Rattle.array_store.specs.Follows.{Follows, Holds, LeafCounts, both};
 ghost use Rattle.drag_along.specs.declared.leaves.Leaf.{Leaf};
@@ -118,7 +118,7 @@ fn clear_readers(
     if let Err(fault) = move_where(alloc, &Which::Reading(*owner), stack, store) {
         return Err(begin_fault(fault));
     }
-    if whole && store.holders(*owner) == 1 {
+    if whole && is_held_once(*owner, store) {
         return Ok(Some(*owner));
     }
     Ok(None)
@@ -133,6 +133,14 @@ fn reads_all(leaf: &Leaf, store: &Store) -> bool
         Leaf::Stored { owner, desc, .. } => desc.is_whole() && store.cells(*owner) == desc.size(),
         Leaf::Gen { .. } => false,
     }
+}
+
+// Whether one leaf alone holds an owner.
+fn is_held_once(owner: OwnerId, store: &Store) -> bool
+    requires { 0 < holders_of store.now owner }
+    ensures { IsTrue result ↔ (holders_of store.now owner ≡ 1) }
+{
+    store.holders(owner) == 1
 }
 
 // The refusal of a force that can't fault.

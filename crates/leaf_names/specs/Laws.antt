@@ -63,11 +63,6 @@ SetAgain =
     (names : Environment Leaf) (name : List ℕ) (leaf : Leaf) → look_up names name ≡ Some leaf
     → set_name names name leaf ≡ names
 
--- a name that is set is found
-abbrev pub SetIsFound : Type 0
-SetIsFound =
-    (names : Environment Leaf) (name : List ℕ) (leaf : Leaf) → look_up (set_name names name leaf) name ≡ Some leaf
-
 -- ---- over another store
 
 -- where the owners that they name have the same data, names are lawful as before, and stand for the same variables

@@ -2,7 +2,7 @@
 //! for. The crate has definitions and their laws; each function does nothing, and its contract is a law.
 #![tactic(auto)]
 
-ghost use Rattle.leaf_names.specs.Laws.{NamedBySet, NamedByFound, NamedByUnset, NamedByFrame, FoundIsLawful, SetIsLawful, SetFills, SetAgain, SetIsFound, NamesKept, FillingKept};
+ghost use Rattle.leaf_names.specs.Laws.{NamedBySet, NamedByFound, NamedByUnset, NamedByFrame, FoundIsLawful, SetIsLawful, SetFills, SetAgain, NamesKept, FillingKept};
 
 /// How often names and an owner go together, where a name is set or found, or a frame comes or goes.
 pub fn count_laws()
@@ -18,7 +18,6 @@ pub fn set_laws()
     ensures lawful { SetIsLawful }
     ensures fills { SetFills }
     ensures again { SetAgain }
-    ensures set { SetIsFound }
 {}
 
 /// What names are over another store in which their owners have the same data.

@@ -1,6 +1,6 @@
 use Rattle.drag_along.specs.Lawful.{IsLawfulLeaf}
 use Rattle.leaf_names.specs.Variables.{FillsOwner}
-use Rattle.leaf_names.proofs.EachLemmas.{look_up-each, set_name-each, set_again, set_name-found}
+use Rattle.leaf_names.proofs.EachLemmas.{look_up-each, set_name-each, set_again}
 use Rattle.leaf_names.proofs.set_laws.Goals as goal
 
 pub returns-clause-found : goal.returns-clause-found
@@ -14,6 +14,3 @@ returns-clause-fills c = λ store names name leaf fill so. set_name-each (FillsO
 
 pub returns-clause-again : goal.returns-clause-again
 returns-clause-again c = set_again
-
-pub returns-clause-set : goal.returns-clause-set
-returns-clause-set c = set_name-found
