@@ -21,8 +21,10 @@ use Rattle.pending_laws.proofs.AnswerLemmas.{passes_limit}
 use Rattle.leaf_names.specs.Variables.{array_of}
 use Rattle.made_leaf.specs.declared.faults.MadeFault.{MadeFault}
 use Rattle.made_leaf.specs.declared.faults.MadeFault.TheVariants as made
-use Rattle.made_leaf.specs.Made.{IsMadeAsking, IsRoomFault}
-use Rattle.made_leaf.proofs.MadeLemmas.{leaf_made}
+use Rattle.made_leaf.specs.Made.{IsMadeAsking, IsAnswered, IsRoomFault}
+use Rattle.made_leaf.specs.Laws.{OnlyMade}
+use Rattle.drag_along.specs.Views.{StandsForArray}
+use Rattle.made_leaf.proofs.MadeLemmas.{leaf_made, made_only, made_stands}
 use Rattle.product_fns.specs.Folding.{reduced_kind, rows_along, AreAllResults, HasUndefined}
 use Rattle.product_fns.specs.Reduction.{reduce_of, axis_number, reduced_shape, reduce_applications, along_applications, Asks, AsksForShape, Applied, IsReducedAlong, IsAxisOf}
 use Rattle.product_fns.proofs.GroupLemmas.{only_as}
@@ -128,3 +130,11 @@ axis_answered old new f axis b number rank result is some named answer =
 pub no_lengths : (ns : List ℕ) → length ns ≡ 0 → ns ≡ []
 no_lengths [] h = refl
 no_lengths (n ∷ ns) h = absurd (omega (arith, h))
+
+-- ---- the leaf that was made
+
+-- it stands for its array
+pub answered_stands : (old new : StoreView) (functions cells : ℕ) (Room : ℕ → Type 0) (answer : Answer) (leaf : Leaf) → IsAnswered (Applied old functions cells) new answer leaf → (a : Array) × StandsForArray new leaf a
+answered_stands old new functions cells Room answer leaf made =
+    let only : OnlyMade old new (Ok leaf) = made_only (Applied old functions cells) Room old new answer (Ok leaf) (λ (s : StoreView) (counted : OnlyComputed old s functions cells). counted.only) made in
+    (only.0, made_stands old new only.0 leaf only.1)

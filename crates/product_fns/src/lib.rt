@@ -12,3 +12,6 @@ mod shapes;
 pub use faults::OuterFault;
 pub use outers::outer;
 pub use reductions::reduce;
+
+#[cfg(test)]
+mod tests;
