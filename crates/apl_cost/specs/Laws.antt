@@ -1,5 +1,6 @@
 -- What holds of ranged evaluation. Each law is the contract of a function in src/laws.
-use Rattle.std.specs.Prelude.{◌≡◌, ℕ, List, map}
+use Rattle.std.specs.List.{AllByRecursion}
+use Rattle.std.specs.Prelude.{◌≡◌, ℕ, ◌≤◌, List, map}
 use Rattle.apl_model.specs.Agreement.{mapped_outcome, mapped_flow, mapped_run, CallsAgree}
 use Rattle.apl_model.specs.Call.{call_within}
 use Rattle.apl_model.specs.Evaluation.{Calls, value_of, statement_flow}
@@ -8,6 +9,7 @@ use Rattle.apl_model.specs.Order.{CallsOf, value_in}
 use Rattle.apl_model.specs.Tree.{Definition, Item, Script, Statement, Tree}
 use Rattle.apl_cost.specs.Ranges.{RangedArray, array_of}
 use Rattle.apl_cost.specs.RangedEvaluation.{RangedState, forgotten, of_ranged, of_ranged_states, ranged_flow, ranged_items}
+use Rattle.apl_cost.specs.Footprint.{Measured, measured_items, footprints, peak}
 
 -- ---- forgetting the intervals gives evaluation: the same value or error, its place, and the state that is left
 
@@ -34,3 +36,14 @@ RunsForget = (script : Script) (items : List Item) (n : ℕ) → run_items scrip
 -- and of the whole: what a script prints, how it ends, and what it leaves
 abbrev pub ImmediateForgets : Type 0
 ImmediateForgets = (script : Script) (n : ℕ) → immediate script n ≡ told (mapped_run forgotten (ranged_items script script.items n))
+
+-- ---- footprints
+
+-- forgetting the footprints gives ranged evaluation
+abbrev pub MeasuresForget : Type 0
+MeasuresForget = (script : Script) (items : List Item) (n : ℕ) →
+    ranged_items script items n ≡ mapped_run (λ (m : Measured). m.ranged) (measured_items script items n)
+
+-- the footprint at each moment of a script's run is at most the peak
+abbrev pub FootprintsAreAtMostPeak : Type 0
+FootprintsAreAtMostPeak = (script : Script) (n : ℕ) → AllByRecursion (λ k. k ≤ peak script n) (footprints script n)

@@ -2,6 +2,8 @@
 //! footprints. Definitions and laws alone.
 #![tactic(auto)]
 
+mod examples;
 mod laws;
 
-pub use laws::forgetting_gives_evaluation;
+pub use examples::{examples_of_runs, examples_of_work};
+pub use laws::{footprints_of_runs, forgetting_gives_evaluation};

@@ -1,9 +1,5 @@
-//! Tests of the readers, from their public calls alone.
+//! Tests of the reader of scripts, from its public calls alone.
 #![tactic(auto)]
 
 #[cfg(test)]
 mod scripts;
-#[cfg(test)]
-mod tokens;
-#[cfg(test)]
-mod trees;

@@ -50,9 +50,18 @@ fn answer(alloc: Global, script: &[u8]) -> Result<String, Fail> {
     }
 }
 
+/// Fails with what is wanted, where something else is told.
+fn tells(alloc: Global, script: &[u8], wanted: &'static str) -> Result<(), Fail> {
+    let told = answer(alloc, script)?;
+    if told.as_str() == wanted {
+        return Ok(());
+    }
+    Err(Fail::from(wanted))
+}
+
 /// Scripts with their first refusals.
 #[rattlefmt::skip]
-const SCRIPTS: [(&str, &str); 131] = [
+const SCRIPTS: [(&str, &str); 137] = [
     // Accepted.
     ("", "accepted"),
     ("\n \n⍝ ∇\n", "accepted"),
@@ -197,35 +206,31 @@ const SCRIPTS: [(&str, &str); 131] = [
     ("∇F;L\nL:1\n∇", "2 1 DoubleName"),
     ("∇Z←F;Z\n∇", "1 6 DoubleName"),
     ("∇F\r\nL:1\r\n∇\r\nF\r\n", "accepted"),
+    // Bytes, tokens and statements.
+    ("A←(1+2", "1 7 Grammar"),
+    ("3.5", "1 1 Number"),
+    ("1++", "1 4 Grammar"),
+    ("⌽[1 2]3", "1 3 Grammar"),
+    ("'AB", "1 1 OpenText"),
+    ("2@3", "1 2 Character"),
 ];
 
-#[test]
-fn the_first_refusal_of_each_script(rt: HostRuntime) -> Result<(), Fail> {
-    for (script, wanted) in SCRIPTS.iter() {
-        let found = answer(rt.alloc(), script.as_bytes())?;
-        assert_eq!(rt; found.as_str(), *wanted, "at {script}");
-    }
-    Ok(())
-}
-
-#[test]
-fn bytes_tokens_and_statements(rt: HostRuntime) -> Result<(), Fail> {
-    let table = [
-        ("A←(1+2", "1 7 Grammar"),
-        ("3.5", "1 1 Number"),
-        ("1++", "1 4 Grammar"),
-        ("⌽[1 2]3", "1 3 Grammar"),
-        ("'AB", "1 1 OpenText"),
-        ("2@3", "1 2 Character"),
-    ];
-    for (script, wanted) in table.iter() {
-        let found = answer(rt.alloc(), script.as_bytes())?;
-        assert_eq!(rt; found.as_str(), *wanted, "at {script}");
-    }
-    let found = answer(rt.alloc(), &[0x32, 0x2B, 0xFF])?;
-    assert_eq!(rt; found.as_str(), "1 3 Utf8");
-    Ok(())
-}
+/// Scripts that begin with a text, go on with many parentheses and end with a text, with their first refusals.
+#[rattlefmt::skip]
+const PARENTHESES: [(&str, usize, &str, &str); 12] = [
+    ("", 64, "1", "1 66 Grammar"),
+    ("", 65, "1", "1 65 Deep"),
+    ("A]\n", 65, "", "1 2 Grammar"),
+    ("A←", 65, "\nA]", "1 67 Deep"),
+    ("A]", 65, "", "1 2 Grammar"),
+    ("F←", 65, "\n∇F\n∇", "1 1 NameClass"),
+    ("", 65, "F←1\n∇F\n∇", "1 65 Deep"),
+    ("F←1\n", 65, "\n∇F\n∇", "1 1 NameClass"),
+    ("∇G\nL:", 65, "\nF←1\n∇\n∇F\n∇", "2 67 Deep"),
+    ("∇G\n", 65, "\n∇\n∇", "4 2 Header"),
+    ("", 65, "\n∇F F\n∇", "2 4 DoubleName"),
+    ("", 65, "\n∇F", "2 1 OpenDefinition"),
+];
 
 /// A script that begins with text, goes on with many parentheses, and ends with text.
 fn with_parentheses(alloc: Global, begin: &str, count: usize, end: &str) -> Result<String, Fail> {
@@ -238,52 +243,34 @@ fn with_parentheses(alloc: Global, begin: &str, count: usize, end: &str) -> Resu
 }
 
 #[test]
-fn the_65th_parenthesis(rt: HostRuntime) -> Result<(), Fail> {
-    let table = [
-        ("", 64, "1", "1 66 Grammar"),
-        ("", 65, "1", "1 65 Deep"),
-        ("A]\n", 65, "", "1 2 Grammar"),
-        ("A←", 65, "\nA]", "1 67 Deep"),
-        ("A]", 65, "", "1 2 Grammar"),
-        ("F←", 65, "\n∇F\n∇", "1 1 NameClass"),
-        ("", 65, "F←1\n∇F\n∇", "1 65 Deep"),
-        ("F←1\n", 65, "\n∇F\n∇", "1 1 NameClass"),
-        ("∇G\nL:", 65, "\nF←1\n∇\n∇F\n∇", "2 67 Deep"),
-        ("∇G\n", 65, "\n∇\n∇", "4 2 Header"),
-        ("", 65, "\n∇F F\n∇", "2 4 DoubleName"),
-        ("", 65, "\n∇F", "2 1 OpenDefinition"),
-    ];
-    for (begin, count, end, wanted) in table.iter() {
-        let script = with_parentheses(rt.alloc(), begin, *count, end)?;
-        let found = answer(rt.alloc(), script.as_bytes())?;
-        assert_eq!(rt; found.as_str(), *wanted, "at {script}");
+fn the_first_refusal_of_each_script(rt: HostRuntime) -> Result<(), Fail> {
+    let alloc = rt.alloc();
+    for (script, wanted) in SCRIPTS.iter() {
+        tells(alloc, script.as_bytes(), wanted)?;
     }
-    Ok(())
+    tells(alloc, &[0x32, 0x2B, 0xFF], "1 3 Utf8")?;
+    for (begin, count, end, wanted) in PARENTHESES.iter() {
+        let script = with_parentheses(alloc, begin, *count, end)?;
+        tells(alloc, script.as_bytes(), wanted)?;
+    }
+    let mut long = vec![in alloc; b' '; 1 << 20]?;
+    tells(alloc, long.as_slice(), "1 1001 LineLong")?;
+    long.push(b'@')?;
+    tells(alloc, long.as_slice(), "0 0 TooLong")
+}
+
+/// The items of a script that is accepted.
+fn shown_items(alloc: Global, source: &str) -> Result<String, Fail> {
+    match script_of_bytes(alloc, source.as_bytes()) {
+        Ok(script) => show_items(alloc, &script),
+        Err(_) => Ok(String::from_str(alloc, "refused")?),
+    }
 }
 
 #[test]
 fn the_items_of_a_script(rt: HostRuntime) -> Result<(), Fail> {
     let source = "1\n\n)VARS\n∇Z←F X;L\nZ←X\n\nM:→M\n∇\n∇G\n∇\nF 2\n";
-    match script_of_bytes(rt.alloc(), source.as_bytes()) {
-        Ok(script) => {
-            let items = show_items(rt.alloc(), &script)?;
-            assert_eq!(rt;
-                items.as_str(),
-                "11 lines: 1; 3 command; 4-8 F 5 6 7:M; 9-10 G; 11;"
-            );
-        }
-        Err(_) => assert_eq!(rt; "refused", "accepted"),
-    }
-    Ok(())
-}
-
-#[test]
-fn a_script_that_is_too_long(rt: HostRuntime) -> Result<(), Fail> {
-    let mut script = vec![in rt.alloc(); b' '; 1 << 20]?;
-    let most = answer(rt.alloc(), script.as_slice())?;
-    assert_eq!(rt; most.as_str(), "1 1001 LineLong");
-    script.push(b'@')?;
-    let more = answer(rt.alloc(), script.as_slice())?;
-    assert_eq!(rt; more.as_str(), "0 0 TooLong");
+    let items = shown_items(rt.alloc(), source)?;
+    assert!(rt; items.as_str() == "11 lines: 1; 3 command; 4-8 F 5 6 7:M; 9-10 G; 11;");
     Ok(())
 }

@@ -1,0 +1,8 @@
+use Rattle.apl_cost.proofs.Measuring.{measures_forget, at_most_peak}
+use Rattle.apl_cost.proofs.laws.footprints_of_runs.Goals as goal
+
+pub returns-clause-forgetting : goal.returns-clause-forgetting
+returns-clause-forgetting c = measures_forget
+
+pub returns-clause-peak : goal.returns-clause-peak
+returns-clause-peak c = at_most_peak

@@ -1,0 +1,162 @@
+-- Worked examples of intervals, work and footprints.
+use Rattle.std.specs.Prelude.{◌≡◌, ℕ, zero, suc, ℤ, pos, List, [], ◌∷◌, codes, Option, Some, None}
+use Prim.Native.String.{String}
+use Rattle.std.specs.Option.{option_map}
+use Rattle.apl_base.specs.declared.cells.Interval.{Interval}
+use Rattle.apl_base.specs.declared.cells.Interval.TheVariants.{Span}
+use Rattle.apl_base.specs.declared.cells.Kind.TheVariants.{Num}
+use Rattle.apl_base.specs.declared.rows.Dya.TheVariants as dya
+use Rattle.apl_base.specs.declared.rows.Mon.TheVariants as mon
+use Rattle.apl_model.specs.declared.functions.Axis.TheVariants as axis
+use Rattle.apl_model.specs.declared.functions.DyaFn.TheVariants as two
+use Rattle.apl_model.specs.declared.functions.MonFn.TheVariants as one
+use Rattle.apl_model.specs.Environment.{no_variables, look_up}
+use Rattle.apl_model.specs.Immediate.{beginning}
+use Rattle.apl_model.specs.Tree.{Tree, Item, Script, parenthesis, monadic, dyadic, reduction, subscript, given, expression, statement_item}
+use Rattle.apl_model_examples.specs.Words.{script, at, number, numbers, integers, negative, name, sets, writes, positions}
+use Rattle.apl_cost.specs.RangedEvaluation.{RangedState, with_ranges, with_name, ranged_items}
+use Rattle.apl_cost.specs.Plain.{plain_work}
+use Rattle.apl_cost.specs.Footprint.{footprints, peak}
+
+-- ---- states and trees
+
+-- no variables
+abbrev pub nothing_set : RangedState
+nothing_set = with_ranges no_variables (beginning 0)
+
+-- the name bound to n numbers in an interval, whatever they are
+abbrev pub bound_numbers : String → ℕ → List ℤ → Interval → RangedState
+bound_numbers n length cells interval =
+    with_name (codes n) (record { array = record { kind = Num; shape = length ∷ []; cells = cells }; interval = interval; kept = interval }) nothing_set
+
+-- `⍳n`
+abbrev pub up_to : ℕ → Tree
+up_to n = monadic one.Iota (number n (at 1 1)) (at 1 1)
+
+-- functions of two arguments
+abbrev pub times : Tree → Tree → Tree
+times a b = dyadic (two.Scalar dya.Mul) a b (at 1 1)
+
+abbrev pub minus : Tree → Tree → Tree
+minus a b = dyadic (two.Scalar dya.Sub) a b (at 1 1)
+
+abbrev pub taken : Tree → Tree → Tree
+taken a b = dyadic two.Take a b (at 1 1)
+
+abbrev pub turned_round : Tree → Tree
+turned_round b = monadic (one.Reverse axis.Last) b (at 1 1)
+
+abbrev pub n_of : ℕ → Tree
+n_of n = number n (at 1 1)
+
+-- so many negations of 1
+abbrev pub negated : ℕ → Tree
+negated zero = n_of 1
+negated (suc n) = monadic (one.Scalar mon.Minus) (negated n) (at 1 1)
+
+-- ---- the work of plain statements
+
+-- `3↑2×⍳1000000000000`
+abbrev pub WorkOfATake : Type 0
+WorkOfATake = plain_work nothing_set (expression (taken (n_of 3) (times (n_of 2) (up_to 1000000000000)))) ≡ Some 29
+
+-- `A←⍳3`
+abbrev pub WorkOfAnAssignment : Type 0
+WorkOfAnAssignment = plain_work nothing_set (expression (sets "A" (up_to 3) (at 1 1))) ≡ Some 17
+
+-- `¯2↑⌽2-⍳1000000000`
+abbrev pub WorkOfAReversal : Type 0
+WorkOfAReversal = plain_work nothing_set (expression (taken (integers (negative 2 ∷ []) (at 1 1)) (turned_round (minus (n_of 2) (up_to 1000000000))))) ≡ Some 23
+
+-- `5↑(⍳1000000000)×⍳1000000000` is plain, and its sum is not
+abbrev pub five_products : Tree
+five_products = taken (n_of 5) (times (parenthesis (up_to 1000000000) (at 1 1)) (up_to 1000000000))
+
+abbrev pub WorkOfAProduct : Type 0
+WorkOfAProduct = plain_work nothing_set (expression five_products) ≡ Some 45
+
+abbrev pub NoWorkOfASum : Type 0
+NoWorkOfASum = plain_work nothing_set (expression (reduction dya.Add axis.Last five_products (at 1 1))) ≡ None
+
+-- `5↑⌽A×2`, where A is a million numbers of at most 1000000, whichever they are
+abbrev pub WorkOverAName : Type 0
+WorkOverAName = (cells : List ℤ) →
+    plain_work (bound_numbers "A" 1000000 cells (Span (pos 3) (pos 1000000))) (expression (taken (n_of 5) (turned_round (times (name "A" (at 1 1)) (n_of 2))))) ≡ Some 36
+
+-- 64 functions, and 65
+abbrev pub WorkOfSixtyFour : Type 0
+WorkOfSixtyFour = plain_work nothing_set (expression (negated 64)) ≡ Some 69
+
+abbrev pub NoWorkOfSixtyFive : Type 0
+NoWorkOfSixtyFive = plain_work nothing_set (expression (negated 65)) ≡ None
+
+-- a function that may fail is not plain: `A-2` in its interval, and `A÷2`
+abbrev pub NoWorkWhereItMayFail : Type 0
+NoWorkWhereItMayFail = (cells : List ℤ) →
+    plain_work (bound_numbers "A" 4 cells (Span (pos 0) (pos 9))) (expression (dyadic (two.Scalar dya.Div) (name "A" (at 1 1)) (n_of 2) (at 1 1))) ≡ None
+
+-- subscripts of A: by a literal in progression, and by one that is none
+abbrev pub by_positions : Tree → Tree
+by_positions p = subscript (name "A" (at 1 1)) (positions (given p ∷ [])) (at 1 1)
+
+abbrev pub WorkByAProgression : Type 0
+WorkByAProgression = (cells : List ℤ) →
+    plain_work (bound_numbers "A" 9 cells (Span (pos 0) (pos 9))) (expression (by_positions (numbers (1 ∷ 4 ∷ 7 ∷ []) (at 1 1)))) ≡ Some 27
+
+abbrev pub NoWorkByOtherPositions : Type 0
+NoWorkByOtherPositions = (cells : List ℤ) →
+    plain_work (bound_numbers "A" 9 cells (Span (pos 0) (pos 9))) (expression (by_positions (numbers (1 ∷ 4 ∷ 8 ∷ []) (at 1 1)))) ≡ None
+
+-- a place beyond the array, and more elements than there are
+abbrev pub NoWorkBeyondTheArray : Type 0
+NoWorkBeyondTheArray = (cells : List ℤ) →
+    plain_work (bound_numbers "A" 9 cells (Span (pos 0) (pos 9))) (expression (by_positions (n_of 10))) ≡ None
+
+abbrev pub NoWorkOfPadding : Type 0
+NoWorkOfPadding = (cells : List ℤ) →
+    plain_work (bound_numbers "A" 9 cells (Span (pos 0) (pos 9))) (expression (taken (n_of 10) (name "A" (at 1 1)))) ≡ None
+
+-- ---- the intervals of a script's variables
+
+-- the interval of A after these items of a script
+abbrev pub interval_after : Script → List Item → Option Interval
+interval_after s items = option_map (λ v. v.kept) (look_up (ranged_items s items 9).state.variables (codes "A"))
+
+abbrev pub a_is_set : Item
+a_is_set = statement_item 1 (expression (sets "A" (times (number 2 (at 1 5)) (up_to 3)) (at 1 1)))
+
+abbrev pub a_is_written : Item
+a_is_written = statement_item 2 (expression (writes "A" (positions (given (number 2 (at 2 3)) ∷ [])) (number 9 (at 2 6)) (at 2 2)))
+
+abbrev pub a_is_part_of_a : Item
+a_is_part_of_a = statement_item 3 (expression (sets "A" (taken (n_of 1) (name "A" (at 3 5))) (at 3 1)))
+
+-- `A←2×⍳3`, `A[2]←9`, `A←1↑A`
+abbrev pub written_script : Script
+written_script = script ("A←2×⍳3" ∷ "A[2]←9" ∷ "A←1↑A" ∷ []) (a_is_set ∷ a_is_written ∷ a_is_part_of_a ∷ [])
+
+-- of a product the exact one; of a write the hull; a selection keeps what it selects from
+abbrev pub IntervalOfAProduct : Type 0
+IntervalOfAProduct = interval_after written_script (a_is_set ∷ []) ≡ Some (Span (pos 2) (pos 6))
+
+abbrev pub IntervalOfAWrite : Type 0
+IntervalOfAWrite = interval_after written_script (a_is_set ∷ a_is_written ∷ []) ≡ Some (Span (pos 2) (pos 9))
+
+abbrev pub IntervalOfASelection : Type 0
+IntervalOfASelection = interval_after written_script (a_is_set ∷ a_is_written ∷ a_is_part_of_a ∷ []) ≡ Some (Span (pos 2) (pos 9))
+
+-- ---- footprints
+
+abbrev pub squares : Tree
+squares = dyadic (two.Scalar dya.Pow) (parenthesis (up_to 3) (at 1 3)) (number 2 (at 1 8)) (at 1 7)
+
+-- `A←(⍳3)*2`: the literals, the numbers, their squares, and the assignment's value beside the variable
+abbrev pub FootprintsOfAnAssignment : Type 0
+FootprintsOfAnAssignment =
+    footprints (script ("A←(⍳3)*2" ∷ []) (statement_item 1 (expression (sets "A" squares (at 1 1))) ∷ [])) 9 ≡ 14 ∷ 8 ∷ 5 ∷ 2 ∷ 1 ∷ []
+
+-- `(⍳8)÷1 1 1 1 1 1 1 0` fails, and its result counts all the same
+abbrev pub PeakOfAFailure : Type 0
+PeakOfAFailure =
+    peak (script ("(⍳8)÷1 1 1 1 1 1 1 0" ∷ []) (statement_item 1
+    (expression (dyadic (two.Scalar dya.Div) (parenthesis (up_to 8) (at 1 1)) (numbers (1 ∷ 1 ∷ 1 ∷ 1 ∷ 1 ∷ 1 ∷ 1 ∷ 0 ∷ []) (at 1 6)) (at 1 5))) ∷ [])) 9 ≡ 25

@@ -1,0 +1,5 @@
+//! Tests of the reader of statements, from its public calls alone.
+#![tactic(auto)]
+
+#[cfg(test)]
+mod trees;
