@@ -1,3 +1,4 @@
 pub mod Fits
 pub mod Faults
+pub mod Shapes
 pub mod Steps

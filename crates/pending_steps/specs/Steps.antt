@@ -1,6 +1,6 @@
 -- What a step on the pending entries leaves: what its instruction does to evaluation, and that holders follow. And why
 -- it halts.
-use Rattle.std.specs.Prelude.{◌≡◌, ◌⊎◌, ℕ, ◌+◌, ◌<◌, List, ◌++◌, length, map}
+use Rattle.std.specs.Prelude.{◌≡◌, ◌⊎◌, ℕ, ◌+◌, ◌<◌, List, ◌++◌, length, map, Result, Ok, Err}
 use Rattle.apl_base.specs.declared.faults.ErrorKind.{ErrorKind}
 use Rattle.apl_base.specs.declared.faults.ErrorKind.TheVariants as error
 use Rattle.apl_base.specs.declared.faults.Place.{Place}
@@ -58,3 +58,10 @@ IsHalted i takes limit pending (halt.Error kind place) =
     IsNotComputed limit pending (halt.Error kind place) ⊎ Refuses i takes pending kind place
 IsHalted i takes limit pending (halt.WsFull live asked) = IsNotComputed limit pending (halt.WsFull live asked)
 IsHalted i takes limit pending halt.NoMemory = Unit {0}
+
+-- it goes on, or is at an error of evaluation, and then this is so: what is pending can be let go
+abbrev pub Reaches : Result (Unit {0}) Halt → Type 0 → Type 0
+Reaches (Ok done) P = P
+Reaches (Err (halt.Error kind place)) P = P
+Reaches (Err (halt.WsFull live asked)) P = Unit {0}
+Reaches (Err halt.NoMemory) P = Unit {0}

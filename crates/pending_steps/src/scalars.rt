@@ -8,7 +8,7 @@ ghost use Rattle.drag_along.specs.Segments.{SegmentView};
 ghost use Rattle.value_stack.specs.Stacks.{named_on, entries, IsLawfulStack};
 ghost use Rattle.apl_model.specs.declared.functions.MonFn.TheVariants.{Scalar as ScalarOne};
 ghost use Rattle.apl_compile.specs.declared.codes.Op.TheVariants.{Mon};
-ghost use Rattle.pending_steps.specs.Steps.{Moves, Steps, IsNotComputed, IsHalted};
+ghost use Rattle.pending_steps.specs.Steps.{Moves, Steps, IsNotComputed, IsHalted, Reaches};
 
 use crate::halts::Halt;
 use crate::joins::join_one;
@@ -35,7 +35,7 @@ pub fn scalar_one(
     requires held { Holds store.old (named_on stack.old) }
     ensures step { OnOk result (Steps (record { place = place; op = Mon (ScalarOne f) }) 1 1
         (entries store.old stack.old) (entries store.new stack.new)) }
-    ensures moves { OnOk result (Moves store.old store.new stack.old stack.new none none) }
+    ensures moves { Reaches result (Moves store.old store.new stack.old stack.new none none) }
     ensures halted { IfErr result (IsHalted (record { place = place; op = Mon (ScalarOne f) }) 1
         store.old.limit (entries store.old stack.old)) }
 {
