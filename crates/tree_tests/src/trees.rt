@@ -147,25 +147,24 @@ fn show_cells(cells: &[Cell], out: &mut String) -> Result<(), Fail> {
 /// What a node is: its cells, its name or its function.
 fn show_node(expr: &Expr, out: &mut String) -> Result<(), Fail> {
     match expr {
-        Expr::Lit { literal, .. } => show_cells(literal.cells.as_slice(), out)?,
-        Expr::Name { name, .. } => out.push_str(name.as_str())?,
-        Expr::Call { f, .. } => write!(out, "{}()", f.as_str())?,
-        Expr::Paren { .. } => out.push_str("(")?,
-        Expr::One { f, .. } => write!(out, "{f:?}")?,
-        Expr::Two { f, .. } => write!(out, "{f:?}")?,
-        Expr::Reduce { f, axis, .. } => write!(out, "{f:?}/{axis:?}")?,
-        Expr::Outer { f, .. } => write!(out, "∘.{f:?}")?,
-        Expr::Inner { f, g, .. } => write!(out, "{f:?}.{g:?}")?,
-        Expr::Index { positions, .. } => write!(out, "[{}]", positions.len())?,
-        Expr::Assign { name, .. } => write!(out, "{}←", name.as_str())?,
+        Expr::Lit { literal, .. } => show_cells(literal.cells.as_slice(), out),
+        Expr::Name { name, .. } => Ok(out.push_str(name.as_str())?),
+        Expr::Call { f, .. } => Ok(write!(out, "{}()", f.as_str())?),
+        Expr::Paren { .. } => Ok(out.push_str("(")?),
+        Expr::One { f, .. } => Ok(write!(out, "{f:?}")?),
+        Expr::Two { f, .. } => Ok(write!(out, "{f:?}")?),
+        Expr::Reduce { f, axis, .. } => Ok(write!(out, "{f:?}/{axis:?}")?),
+        Expr::Outer { f, .. } => Ok(write!(out, "∘.{f:?}")?),
+        Expr::Inner { f, g, .. } => Ok(write!(out, "{f:?}.{g:?}")?),
+        Expr::Index { positions, .. } => Ok(write!(out, "[{}]", positions.len())?),
+        Expr::Assign { name, .. } => Ok(write!(out, "{}←", name.as_str())?),
         Expr::IndexAssign {
             name,
             positions,
             ..
-        } => write!(out, "{}[{}]←", name.as_str(), positions.len())?,
-        Expr::Output { .. } => out.push_str("⎕←")?,
+        } => Ok(write!(out, "{}[{}]←", name.as_str(), positions.len())?),
+        Expr::Output { .. } => Ok(out.push_str("⎕←")?),
     }
-    Ok(())
 }
 
 /// Where a node stands.
@@ -190,21 +189,21 @@ fn place_of(expr: &Expr) -> Place {
 /// Puts what stands below a node on top of `work`, the first one last.
 fn push_parts<'a>(expr: &'a Expr, work: &mut Vec<Option<&'a Expr>>) -> Result<(), Fail> {
     match expr {
-        Expr::Lit { .. } | Expr::Name { .. } => {}
+        Expr::Lit { .. } | Expr::Name { .. } => Ok(()),
         Expr::Call { left, right, .. } => {
             push_given(right, work)?;
-            push_given(left, work)?;
+            push_given(left, work)
         }
         Expr::Paren { inner: part, .. }
         | Expr::One { right: part, .. }
         | Expr::Reduce { right: part, .. }
         | Expr::Assign { value: part, .. }
-        | Expr::Output { value: part, .. } => work.push(Some(part.get()))?,
+        | Expr::Output { value: part, .. } => Ok(work.push(Some(part.get()))?),
         Expr::Two { left, right, .. }
         | Expr::Outer { left, right, .. }
         | Expr::Inner { left, right, .. } => {
             work.push(Some(right.get()))?;
-            work.push(Some(left.get()))?;
+            Ok(work.push(Some(left.get()))?)
         }
         Expr::Index {
             array,
@@ -212,7 +211,7 @@ fn push_parts<'a>(expr: &'a Expr, work: &mut Vec<Option<&'a Expr>>) -> Result<()
             ..
         } => {
             push_positions(positions, work)?;
-            work.push(Some(array.get()))?;
+            Ok(work.push(Some(array.get()))?)
         }
         Expr::IndexAssign {
             positions,
@@ -220,10 +219,9 @@ fn push_parts<'a>(expr: &'a Expr, work: &mut Vec<Option<&'a Expr>>) -> Result<()
             ..
         } => {
             work.push(Some(value.get()))?;
-            push_positions(positions, work)?;
+            push_positions(positions, work)
         }
     }
-    Ok(())
 }
 
 /// Puts an argument on top of `work`, or that it is left out.
