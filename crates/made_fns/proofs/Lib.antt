@@ -5,3 +5,5 @@ pub mod Lengths
 pub mod Tests
 pub mod ScanLemmas
 pub mod ReshapeLemmas
+pub mod AxisLemmas
+pub mod TurnLemmas

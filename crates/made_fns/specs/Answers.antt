@@ -2,7 +2,9 @@
 use Rattle.std.specs.Prelude.{◌≡◌, ℕ, ◌%◌, ℤ, pos, int_le, unsigned_abs, Bool, ◌&&◌, List, ◌++◌, map, slice_index_or, Result, Ok, Err}
 use Rattle.apl_base.specs.declared.cells.Kind.TheVariants.{Num}
 use Rattle.apl_base.specs.declared.faults.ErrorKind.{ErrorKind}
+use Rattle.apl_base.specs.declared.faults.ErrorKind.TheVariants as error
 use Rattle.apl_base.specs.Array.{Array, size_of}
+use Rattle.apl_base.specs.Elements.{gathered}
 use Rattle.apl_base.specs.Selection.{upward}
 use Rattle.array_desc.specs.Desc.{DescView}
 use Rattle.array_store.specs.Stores.{StoreView}
@@ -10,7 +12,8 @@ use Rattle.drag_along.specs.declared.leaves.Leaf.{Leaf}
 use Rattle.drag_along.specs.declared.leaves.Leaf.TheVariants.{Gen}
 use Rattle.drag_along.specs.Nodes.{leaf_shape}
 use Rattle.drag_along.specs.Views.{StandsForArray}
-use Rattle.apl_model.specs.Made.{joined_kind}
+use Rattle.apl_model.specs.declared.functions.Axis.{Axis}
+use Rattle.apl_model.specs.Made.{joined_kind, on_axis, turn, turned_index}
 use Rattle.apl_model.specs.Whole.{Answer, count, vector}
 use Rattle.leaf_names.specs.Variables.{array_of}
 
@@ -53,3 +56,17 @@ reshaped_array a b = record {
   shape = lengths_named a;
   cells = map (λ p. slice_index_or b.cells (p % count b) (pos 0)) (upward 0 (size_of (lengths_named a)));
 }
+
+-- ---- axes
+
+-- a function along this axis of an array of this rank goes along axis k, where a number in brackets counts from 1
+abbrev pub GoesAlong : Axis → ℕ → ℕ → Type 0
+GoesAlong axis rank k = (make : ℕ → Answer) → on_axis (pos 1) axis rank make ≡ make k
+
+-- there is no such axis
+abbrev pub NoAxis : Axis → ℕ → Type 0
+NoAxis axis rank = (make : ℕ → Answer) → on_axis (pos 1) axis rank make ≡ Err error.Rank
+
+-- B turned along an axis by A
+abbrev pub rotated_array : ℕ → Array → Array → Array
+rotated_array k a b = gathered b.shape (λ is. turned_index b.shape k (turn a k is) is) b

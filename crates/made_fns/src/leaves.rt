@@ -8,7 +8,7 @@ ghost use Rattle.apl_model.specs.Whole.{is_text as is_text_array};
 ghost use Rattle.leaf_names.specs.Variables.{array_of};
 ghost use Rattle.made_fns.specs.Answers.{elements_in};
 
-use apl_base::Kind;
+use apl_base::{Kind, Shape};
 use drag_along::Leaf;
 
 /// How many elements a leaf has.
@@ -34,4 +34,18 @@ pub fn is_text(leaf: &Leaf) -> bool
     ensures { (store : StoreView) → result ≡ is_text_array (array_of store leaf.now) }
 {
     leaf.kind() == Kind::Char && elements(leaf) > 0
+}
+
+/// The shape of a leaf.
+pub fn shape(leaf: &Leaf) -> &Shape
+    ensures { result.now ≡ leaf_shape leaf.now }
+{
+    &leaf.desc().shape
+}
+
+/// The lengths of a leaf's axes.
+pub fn lengths(leaf: &Leaf) -> &[u64]
+    ensures { result.now ≡ leaf_shape leaf.now }
+{
+    leaf.desc().shape.lengths()
 }

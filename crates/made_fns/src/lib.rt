@@ -3,12 +3,15 @@
 //! the first of its errors.
 #![tactic(auto)]
 
+mod axes;
 mod joins;
 mod leaves;
 mod reshapes;
 mod scans;
+mod turns;
 mod vectors;
 
 pub use joins::catenate;
 pub use reshapes::reshape;
+pub use turns::rotate;
 pub use vectors::{iota, ravel, shape_of};
