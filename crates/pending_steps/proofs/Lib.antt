@@ -1,3 +1,4 @@
 pub mod FoldLemmas
 pub mod StepLemmas
 pub mod ArrayLemmas
+pub mod PairLemmas

@@ -4,11 +4,13 @@
 mod fits;
 mod halts;
 mod joins;
+mod pairs;
 mod rooms;
 mod scalars;
 
 pub use fits::{Fit, shapes_fit};
 pub use halts::Halt;
 pub use joins::{extend, join_one, join_two};
+pub use pairs::{Operands, join_fitted};
 pub use rooms::{compute_entry, settle_entries};
 pub use scalars::scalar_one;
