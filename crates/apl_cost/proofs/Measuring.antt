@@ -110,7 +110,7 @@ step-same : (step : Step Statement) → mapped_step (λ (p : Statement). p) step
 step-same (statement_step line p) = refl
 step-same (command_step c) = refl
 
-steps-same : (steps : List (Step Statement)) → map (mapped_step (λ (p : Statement). p)) steps ≡ steps
+pub steps-same : (steps : List (Step Statement)) → map (mapped_step (λ (p : Statement). p)) steps ≡ steps
 steps-same [] = refl
 steps-same (s ∷ ss) = ap (λ x. x ∷ map (mapped_step (λ (p : Statement). p)) ss) (step-same s) ∙ ap (λ xs. s ∷ xs) (steps-same ss)
 

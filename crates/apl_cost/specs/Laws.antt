@@ -1,6 +1,6 @@
 -- What holds of ranged evaluation. Each law is the contract of a function in src/laws.
 use Rattle.std.specs.List.{AllByRecursion}
-use Rattle.std.specs.Prelude.{◌≡◌, ℕ, ◌≤◌, List, map}
+use Rattle.std.specs.Prelude.{◌≡◌, ℕ, ◌≤◌, List, ◌++◌, map}
 use Rattle.apl_model.specs.Agreement.{mapped_outcome, mapped_flow, mapped_run, CallsAgree}
 use Rattle.apl_model.specs.Call.{call_within}
 use Rattle.apl_model.specs.Evaluation.{Calls, value_of, statement_flow}
@@ -47,3 +47,17 @@ MeasuresForget = (script : Script) (items : List Item) (n : ℕ) →
 -- the footprint at each moment of a script's run is at most the peak
 abbrev pub FootprintsAreAtMostPeak : Type 0
 FootprintsAreAtMostPeak = (script : Script) (n : ℕ) → AllByRecursion (λ k. k ≤ peak script n) (footprints script n)
+
+-- footprints are the older ones of others, which have some before them
+abbrev pub AreOlderOf : List ℕ → List ℕ → Type 0
+AreOlderOf older all = (newer : List ℕ) × (all ≡ newer ++ older)
+
+-- the footprints of a script's first items are the older ones of those of more items
+abbrev pub FootprintsOfFirstItems : Type 0
+FootprintsOfFirstItems = (script : Script) (items more : List Item) (n : ℕ) →
+    AreOlderOf (measured_items script items n).state.moments (measured_items script (items ++ more) n).state.moments
+
+-- so none of the footprints of a script's first items is above the script's peak
+abbrev pub FirstFootprintsAreAtMostPeak : Type 0
+FirstFootprintsAreAtMostPeak = (script : Script) (items more : List Item) (n : ℕ) → script.items ≡ items ++ more →
+    AllByRecursion (λ k. k ≤ peak script n) (measured_items script items n).state.moments

@@ -1,6 +1,6 @@
 //! The laws of ranged evaluation: each function does nothing, and its contract is the law.
 
-ghost use Rattle.apl_cost.specs.Laws.{ExpressionsForget, StatementsForget, CallsForget, RunsForget, ImmediateForgets, MeasuresForget, FootprintsAreAtMostPeak};
+ghost use Rattle.apl_cost.specs.Laws.{ExpressionsForget, StatementsForget, CallsForget, RunsForget, ImmediateForgets, MeasuresForget, FootprintsAreAtMostPeak, FootprintsOfFirstItems, FirstFootprintsAreAtMostPeak};
 
 /// Ranged evaluation comes to what evaluation comes to, once the intervals are forgotten.
 pub fn forgetting_gives_evaluation()
@@ -11,8 +11,11 @@ pub fn forgetting_gives_evaluation()
     ensures immediate { ImmediateForgets }
 {}
 
-/// Footprints change nothing of ranged evaluation, and none of a script's run is above its peak.
+/// Footprints change nothing of ranged evaluation, none of a script's run is above its peak, and those of its first items
+/// stay where more items follow.
 pub fn footprints_of_runs()
     ensures forgetting { MeasuresForget }
     ensures peak { FootprintsAreAtMostPeak }
+    ensures first_items { FootprintsOfFirstItems }
+    ensures first_peak { FirstFootprintsAreAtMostPeak }
 {}

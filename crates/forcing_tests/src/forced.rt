@@ -31,38 +31,6 @@ fn chain_gives(
     Ok(counted && cells.as_slice() == wanted)
 }
 
-#[test]
-fn elements_of_a_scalar(rt: HostRuntime) -> Result<(), Fail> {
-    assert!(rt; chain_gives(rt.alloc(), &[], &[5], 1, &[-5])?);
-    Ok(())
-}
-
-#[test]
-fn elements_of_a_matrix(rt: HostRuntime) -> Result<(), Fail> {
-    assert!(rt; chain_gives(rt.alloc(), &[2, 2], &[1, 2, 3, 4], 3, &[-1, 0, 1, 2])?);
-    Ok(())
-}
-
-#[test]
-fn elements_of_the_longest(rt: HostRuntime) -> Result<(), Fail> {
-    assert!(rt;
-        chain_gives(
-            rt.alloc(),
-            &[2, 1, 2],
-            &[1, 1, 1, 1],
-            64,
-            &[1, -31, -63, -95]
-        )?
-    );
-    Ok(())
-}
-
-#[test]
-fn no_elements(rt: HostRuntime) -> Result<(), Fail> {
-    assert!(rt; chain_gives(rt.alloc(), &[2, 0, 3], &[], 3, &[])?);
-    Ok(())
-}
-
 // Whether `(A÷2)+1÷B` faults at this column, or at none, for the halves of these values.
 fn halves_fault_at(alloc: Global, values: &[i8], at: Option<u32>) -> Result<bool, Fail> {
     let mut store = Store::new(alloc, 8);
@@ -75,10 +43,16 @@ fn halves_fault_at(alloc: Global, values: &[i8], at: Option<u32>) -> Result<bool
 }
 
 #[test]
-fn the_least_node_that_fails(rt: HostRuntime) -> Result<(), Fail> {
-    assert!(rt; halves_fault_at(rt.alloc(), &[8, 6, 1, 1], None)?);
-    assert!(rt; halves_fault_at(rt.alloc(), &[7, 6, 1, 0], Some(8))?);
-    assert!(rt; halves_fault_at(rt.alloc(), &[7, 5, 1, 1], Some(3))?);
-    assert!(rt; halves_fault_at(rt.alloc(), &[8, 5, 1, 1], Some(3))?);
+fn elements_and_faults(rt: HostRuntime) -> Result<(), Fail> {
+    let alloc = rt.alloc();
+    assert!(rt; chain_gives(alloc, &[], &[5], 1, &[-5])?);
+    assert!(rt; chain_gives(alloc, &[2, 2], &[1, 2, 3, 4], 3, &[-1, 0, 1, 2])?);
+    assert!(rt; chain_gives(alloc, &[2, 1, 2], &[1, 1, 1, 1], 64, &[1, -31, -63, -95])?);
+    assert!(rt; chain_gives(alloc, &[2, 0, 3], &[], 3, &[])?);
+    // The least node that fails.
+    assert!(rt; halves_fault_at(alloc, &[8, 6, 1, 1], None)?);
+    assert!(rt; halves_fault_at(alloc, &[7, 6, 1, 0], Some(8))?);
+    assert!(rt; halves_fault_at(alloc, &[7, 5, 1, 1], Some(3))?);
+    assert!(rt; halves_fault_at(alloc, &[8, 5, 1, 1], Some(3))?);
     Ok(())
 }

@@ -35,13 +35,6 @@ fn refuses_a_chain(alloc: Global) -> Result<bool, Fail> {
     Ok(refused == Some(ForceFault::WsFull { live: 4, asked: 4 }) && store.counts() == counts)
 }
 
-#[test]
-fn no_room(rt: HostRuntime) -> Result<(), Fail> {
-    assert!(rt; refuses_a_copy(rt.alloc())?);
-    assert!(rt; refuses_a_chain(rt.alloc())?);
-    Ok(())
-}
-
 // The vector 9 ¯2 5, which is stored from its end.
 fn turned(store: &mut Store, shape: &Shape) -> Result<Leaf, Fail>
     requires { shape.now ≡ 3 ∷ [] }
@@ -74,13 +67,6 @@ fn reads_places(alloc: Global) -> Result<bool, Fail> {
     Ok(cells.as_slice() == [9, -2, 5].as_slice() && store.counts().fetched == 3)
 }
 
-#[test]
-fn elements_read(rt: HostRuntime) -> Result<(), Fail> {
-    assert!(rt; reads_an_element(rt.alloc())?);
-    assert!(rt; reads_places(rt.alloc())?);
-    Ok(())
-}
-
 // Whether a leaf is held once more where it is forced, and copied with its own elements.
 fn holds_and_copies(alloc: Global) -> Result<bool, Fail> {
     let mut store = Store::new(alloc, 6);
@@ -99,7 +85,12 @@ fn holds_and_copies(alloc: Global) -> Result<bool, Fail> {
 }
 
 #[test]
-fn a_leaf_held_and_copied(rt: HostRuntime) -> Result<(), Fail> {
-    assert!(rt; holds_and_copies(rt.alloc())?);
+fn leaves_asked(rt: HostRuntime) -> Result<(), Fail> {
+    let alloc = rt.alloc();
+    assert!(rt; refuses_a_copy(alloc)?);
+    assert!(rt; refuses_a_chain(alloc)?);
+    assert!(rt; reads_an_element(alloc)?);
+    assert!(rt; reads_places(alloc)?);
+    assert!(rt; holds_and_copies(alloc)?);
     Ok(())
 }
