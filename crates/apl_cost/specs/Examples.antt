@@ -10,10 +10,11 @@ use Rattle.apl_base.specs.declared.rows.Mon.TheVariants as mon
 use Rattle.apl_model.specs.declared.functions.Axis.TheVariants as axis
 use Rattle.apl_model.specs.declared.functions.DyaFn.TheVariants as two
 use Rattle.apl_model.specs.declared.functions.MonFn.TheVariants as one
+use Rattle.apl_model.specs.declared.scripts.Command.TheVariants.{Erase, Origin}
 use Rattle.apl_model.specs.Environment.{no_variables, look_up}
 use Rattle.apl_model.specs.Immediate.{beginning}
-use Rattle.apl_model.specs.Tree.{Tree, Item, Script, parenthesis, monadic, dyadic, reduction, subscript, given, expression, statement_item}
-use Rattle.apl_model_examples.specs.Words.{script, at, number, numbers, integers, negative, name, sets, writes, positions}
+use Rattle.apl_model.specs.Tree.{Tree, Item, Script, parenthesis, monadic, dyadic, reduction, subscript, given, expression, statement_item, elided, command_item}
+use Rattle.apl_model_examples.specs.Words.{script, at, number, numbers, integers, negative, name, sets, writes, positions, calls, header, definition, body_line, unlabelled, label}
 use Rattle.apl_cost.specs.RangedEvaluation.{RangedState, with_ranges, with_name, ranged_items}
 use Rattle.apl_cost.specs.Plain.{plain_work}
 use Rattle.apl_cost.specs.Footprint.{footprints, peak}
@@ -160,3 +161,75 @@ abbrev pub PeakOfAFailure : Type 0
 PeakOfAFailure =
     peak (script ("(⍳8)÷1 1 1 1 1 1 1 0" ∷ []) (statement_item 1
     (expression (dyadic (two.Scalar dya.Div) (parenthesis (up_to 8) (at 1 1)) (numbers (1 ∷ 1 ∷ 1 ∷ 1 ∷ 1 ∷ 1 ∷ 1 ∷ 0 ∷ []) (at 1 6)) (at 1 5))) ∷ [])) 9 ≡ 25
+
+-- `A←1 2 3` and `A[2]←9`: the second counts its value, its position, the new array and its value again, beside A
+abbrev pub FootprintsOfAWrite : Type 0
+FootprintsOfAWrite =
+    footprints (script ("A←1 2 3" ∷ "A[2]←9" ∷ [])
+    (statement_item 1 (expression (sets "A" (numbers (1 ∷ 2 ∷ 3 ∷ []) (at 1 3)) (at 1 1))) ∷ a_is_written ∷ [])) 9
+    ≡ 9 ∷ 8 ∷ 5 ∷ 4 ∷ 9 ∷ 3 ∷ []
+
+-- `(B←2 3)×⍳2`: an assignment inside an expression
+abbrev pub FootprintsOfAnInnerAssignment : Type 0
+FootprintsOfAnInnerAssignment =
+    footprints (script ("(B←2 3)×⍳2" ∷ []) (statement_item 1 (expression
+    (times (parenthesis (sets "B" (numbers (2 ∷ 3 ∷ []) (at 1 4)) (at 1 2)) (at 1 1)) (up_to 2))) ∷ [])) 9
+    ≡ 11 ∷ 9 ∷ 5 ∷ 3 ∷ 1 ∷ []
+
+-- `∇Z←F X`, `Z←X,X`, and `F 1 2`: the caller's statement and the argument count through the call
+abbrev pub FootprintsOfACall : Type 0
+FootprintsOfACall =
+    footprints (script ("∇Z←F X" ∷ "Z←X,X" ∷ "∇" ∷ "F 1 2" ∷ [])
+    (definition 1 3 (header (Some (codes "Z")) None "F" (Some (codes "X")) [])
+    (body_line 2 unlabelled (expression (sets "Z" (dyadic two.Catenate (name "X" (at 2 3)) (name "X" (at 2 5)) (at 2 4)) (at 2 1))) ∷ [])
+    ∷ statement_item 4 (expression (calls "F" elided (given (numbers (1 ∷ 2 ∷ []) (at 4 3))) (at 4 1)))
+    ∷ [])) 9
+    ≡ 6 ∷ 20 ∷ 12 ∷ 8 ∷ 6 ∷ 2 ∷ []
+
+-- ---- intervals through calls, labels and commands
+
+abbrev pub a_function_of_a_label : Item
+a_function_of_a_label =
+    definition 1 3 (header (Some (codes "Z")) None "F" (Some (codes "X")) [])
+    (body_line 2 (label "L") (expression (sets "Z" (dyadic (two.Scalar dya.Add) (name "X" (at 2 5)) (name "L" (at 2 7)) (at 2 6)) (at 2 3))) ∷ [])
+
+abbrev pub a_is_called : Item
+a_is_called = statement_item 4 (expression (sets "A" (calls "F" elided (given (numbers (5 ∷ 7 ∷ []) (at 4 5))) (at 4 3)) (at 4 1)))
+
+abbrev pub a_is_turned : Item
+a_is_turned = statement_item 5 (expression (sets "A" (turned_round (times (name "A" (at 5 4)) (n_of 0))) (at 5 1)))
+
+abbrev pub a_is_erased : Item
+a_is_erased = command_item 6 (Erase (codes "A" ∷ []))
+
+abbrev pub the_origin_is_0 : Item
+the_origin_is_0 = command_item 7 (Origin (pos 0))
+
+abbrev pub a_counts : Item
+a_counts = statement_item 8 (expression (sets "A" (up_to 3) (at 8 1)))
+
+-- `L:Z←X+L` in `∇Z←F X`, `A←F 5 7`, `A←⌽A×0`, `)ERASE A`, `)ORIGIN 0`, `A←⍳3`
+abbrev pub called_script : Script
+called_script = script ("∇Z←F X" ∷ "L:Z←X+L" ∷ "∇" ∷ "A←F 5 7" ∷ "A←⌽A×0" ∷ ")ERASE A" ∷ ")ORIGIN 0" ∷ "A←⍳3" ∷ [])
+    (a_function_of_a_label ∷ a_is_called ∷ a_is_turned ∷ a_is_erased ∷ the_origin_is_0 ∷ a_counts ∷ [])
+
+-- a call's result has what is kept with its name; a selection from a product the product's exact one
+abbrev pub IntervalOfACall : Type 0
+IntervalOfACall = interval_after called_script (a_is_called ∷ []) ≡ Some (Span (pos 6) (pos 8))
+
+abbrev pub IntervalOfATurnedProduct : Type 0
+IntervalOfATurnedProduct = interval_after called_script (a_is_called ∷ a_is_turned ∷ []) ≡ Some (Span (pos 0) (pos 0))
+
+abbrev pub NoIntervalOfAnErasedName : Type 0
+NoIntervalOfAnErasedName = interval_after called_script (a_is_called ∷ a_is_turned ∷ a_is_erased ∷ []) ≡ None
+
+abbrev pub IntervalFromOriginZero : Type 0
+IntervalFromOriginZero = interval_after called_script (a_is_called ∷ a_is_turned ∷ a_is_erased ∷ the_origin_is_0 ∷ a_counts ∷ []) ≡ Some (Span (pos 0) (pos 2))
+
+-- ---- a name as position
+
+-- `A[I]`, where I is 2 4 6
+abbrev pub WorkByAName : Type 0
+WorkByAName = (cells : List ℤ) →
+    plain_work (with_name (codes "I") (record { array = record { kind = Num; shape = 3 ∷ []; cells = pos 2 ∷ pos 4 ∷ pos 6 ∷ [] }; interval = Span (pos 2) (pos 6); kept = Span (pos 2) (pos 6) })
+    (bound_numbers "A" 9 cells (Span (pos 0) (pos 9)))) (expression (by_positions (name "I" (at 1 1)))) ≡ Some 24

@@ -17,6 +17,7 @@ pub fn examples_of_work()
     ensures other_positions { example.NoWorkByOtherPositions }
     ensures beyond { example.NoWorkBeyondTheArray }
     ensures padding { example.NoWorkOfPadding }
+    ensures position_by_name { example.WorkByAName }
 {}
 
 /// The intervals of variables, and the footprints of runs.
@@ -26,4 +27,11 @@ pub fn examples_of_runs()
     ensures selection { example.IntervalOfASelection }
     ensures footprints { example.FootprintsOfAnAssignment }
     ensures failure { example.PeakOfAFailure }
+    ensures footprints_of_a_write { example.FootprintsOfAWrite }
+    ensures inner_assignment { example.FootprintsOfAnInnerAssignment }
+    ensures footprints_of_a_call { example.FootprintsOfACall }
+    ensures call { example.IntervalOfACall }
+    ensures turned_product { example.IntervalOfATurnedProduct }
+    ensures erased { example.NoIntervalOfAnErasedName }
+    ensures origin { example.IntervalFromOriginZero }
 {}

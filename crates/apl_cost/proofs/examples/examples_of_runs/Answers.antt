@@ -15,3 +15,24 @@ returns-clause-footprints c = refl
 
 pub returns-clause-failure : goal.returns-clause-failure
 returns-clause-failure c = refl
+
+pub returns-clause-footprints_of_a_write : goal.returns-clause-footprints_of_a_write
+returns-clause-footprints_of_a_write c = refl
+
+pub returns-clause-inner_assignment : goal.returns-clause-inner_assignment
+returns-clause-inner_assignment c = refl
+
+pub returns-clause-footprints_of_a_call : goal.returns-clause-footprints_of_a_call
+returns-clause-footprints_of_a_call c = refl
+
+pub returns-clause-call : goal.returns-clause-call
+returns-clause-call c = refl
+
+pub returns-clause-turned_product : goal.returns-clause-turned_product
+returns-clause-turned_product c = refl
+
+pub returns-clause-erased : goal.returns-clause-erased
+returns-clause-erased c = refl
+
+pub returns-clause-origin : goal.returns-clause-origin
+returns-clause-origin c = refl

@@ -39,3 +39,6 @@ returns-clause-beyond c cells = refl
 
 pub returns-clause-padding : goal.returns-clause-padding
 returns-clause-padding c cells = refl
+
+pub returns-clause-position_by_name : goal.returns-clause-position_by_name
+returns-clause-position_by_name c cells = refl
