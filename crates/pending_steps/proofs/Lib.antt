@@ -2,3 +2,4 @@ pub mod FoldLemmas
 pub mod StepLemmas
 pub mod ArrayLemmas
 pub mod PairLemmas
+pub mod FewerLemmas

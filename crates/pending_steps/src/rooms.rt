@@ -7,7 +7,7 @@ ghost use Rattle.drag_along.specs.Nodes.{functions_in};
 ghost use Rattle.drag_along.specs.Segments.{SegmentView};
 ghost use Rattle.value_stack.specs.Stacks.{named_on, entries, MayFail, IsLeastOrNone, IsLawfulStack};
 ghost use Rattle.alias_force.specs.Moving.{may_fail, AreMoved};
-ghost use Rattle.pending_steps.specs.Shapes.{shapes_of, AreArrays};
+ghost use Rattle.pending_steps.specs.Shapes.{shapes_of, AreArrays, AreFewer};
 ghost use Rattle.pending_steps.specs.Steps.{Moves, IsNotComputed};
 
 use crate::halts::Halt;
@@ -17,7 +17,7 @@ use std::alloc::Global;
 use value_stack::Stack;
 
 /// Computes every entry that may fail, the oldest first. Each entry means what it meant.
-#[tactic(auto, using(crate::proofs::ArrayLemmas::least_arrays, crate::proofs::ArrayLemmas::same_shapes))]
+#[tactic(auto, using(crate::proofs::ArrayLemmas::least_arrays, crate::proofs::ArrayLemmas::same_shapes, crate::proofs::FewerLemmas::moved_fewer))]
 pub fn settle_entries(alloc: Global, stack: &mut Stack, store: &mut Store) -> Result<(), Halt>
     requires lawful { IsLawfulStack store.old stack.old }
     requires held { Holds store.old (named_on stack.old) }
@@ -29,6 +29,7 @@ pub fn settle_entries(alloc: Global, stack: &mut Stack, store: &mut Store) -> Re
     ensures means { entries store.new stack.new ≡ entries store.old stack.old }
     ensures moves { Moves store.old store.new stack.old stack.new none none }
     ensures shapes { OnOk result (shapes_of stack.new ≡ shapes_of stack.old) }
+    ensures fewer { OnOk result (AreFewer stack.old stack.new) }
     ensures length { length stack.new ≡ length stack.old }
     ensures store { IsStore store.new }
 {
@@ -40,6 +41,7 @@ pub fn settle_entries(alloc: Global, stack: &mut Stack, store: &mut Store) -> Re
 }
 
 /// Computes an entry that has functions, and before it every entry that may fail. Each entry means what it meant.
+#[tactic(auto, using(crate::proofs::FewerLemmas::same_fewer, crate::proofs::FewerLemmas::fewer_then))]
 pub fn compute_entry(
     alloc: Global,
     at: usize,
@@ -56,6 +58,7 @@ pub fn compute_entry(
     ensures means { entries store.new stack.new ≡ entries store.old stack.old }
     ensures moves { Moves store.old store.new stack.old stack.new none none }
     ensures shapes { OnOk result (shapes_of stack.new ≡ shapes_of stack.old) }
+    ensures fewer { OnOk result (AreFewer stack.old stack.new) }
     ensures length { length stack.new ≡ length stack.old }
 {
     if stack.entry(at).functions() == 0 {
@@ -69,7 +72,7 @@ pub fn compute_entry(
 }
 
 // Gives an entry that has functions, but can't fail, an owner of its own.
-#[tactic(auto, using(crate::proofs::ArrayLemmas::kept_shapes, crate::proofs::ArrayLemmas::put_there, crate::proofs::ArrayLemmas::own_has_none))]
+#[tactic(auto, using(crate::proofs::ArrayLemmas::kept_shapes, crate::proofs::ArrayLemmas::put_there, crate::proofs::FewerLemmas::set_fewer, crate::proofs::ArrayLemmas::own_has_none))]
 fn own_entry(alloc: Global, at: usize, stack: &mut Stack, store: &mut Store) -> Result<(), Halt>
     requires within { at < length stack.old }
     requires lawful { IsLawfulStack store.old stack.old }
@@ -84,6 +87,7 @@ fn own_entry(alloc: Global, at: usize, stack: &mut Stack, store: &mut Store) -> 
     ensures means { entries store.new stack.new ≡ entries store.old stack.old }
     ensures moves { Moves store.old store.new stack.old stack.new none none }
     ensures shapes { OnOk result (shapes_of stack.new ≡ shapes_of stack.old) }
+    ensures fewer { OnOk result (AreFewer stack.old stack.new) }
     ensures length { length stack.new ≡ length stack.old }
 {
     // They tell the proof that each entry is a segment, before and after.
