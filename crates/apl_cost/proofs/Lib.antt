@@ -1,3 +1,4 @@
+pub mod Counting
 pub mod Forgetting
 pub mod Growing
 pub mod Measuring

@@ -1,6 +1,6 @@
 -- What holds of ranged evaluation. Each law is the contract of a function in src/laws.
 use Rattle.std.specs.List.{AllByRecursion}
-use Rattle.std.specs.Prelude.{◌≡◌, ℕ, ◌≤◌, List, ◌++◌, map}
+use Rattle.std.specs.Prelude.{◌≡◌, ℕ, ℤ, ◌≤◌, List, ◌++◌, map}
 use Rattle.apl_model.specs.Agreement.{mapped_outcome, mapped_flow, mapped_run, CallsAgree}
 use Rattle.apl_model.specs.Call.{call_within}
 use Rattle.apl_model.specs.Evaluation.{Calls, value_of, statement_flow}
@@ -9,6 +9,10 @@ use Rattle.apl_model.specs.Order.{CallsOf, value_in}
 use Rattle.apl_model.specs.Tree.{Definition, Item, Script, Statement, Tree}
 use Rattle.apl_cost.specs.Ranges.{RangedArray, array_of}
 use Rattle.apl_cost.specs.RangedEvaluation.{RangedState, forgotten, of_ranged, of_ranged_states, ranged_flow, ranged_items}
+use Rattle.apl_base.specs.Interval.{exact_interval}
+use Rattle.apl_base.specs.Selection.{upward}
+use Rattle.apl_model.specs.Made.{counted_from}
+use Rattle.apl_cost.specs.Plain.{numbers_from}
 use Rattle.apl_cost.specs.Footprint.{Measured, measured_items, footprints, peak}
 
 -- ---- forgetting the intervals gives evaluation: the same value or error, its place, and the state that is left
@@ -61,3 +65,9 @@ FootprintsOfFirstItems = (script : Script) (items more : List Item) (n : ℕ) �
 abbrev pub FirstFootprintsAreAtMostPeak : Type 0
 FirstFootprintsAreAtMostPeak = (script : Script) (items more : List Item) (n : ℕ) → script.items ≡ items ++ more →
     AllByRecursion (λ k. k ≤ peak script n) (measured_items script items n).state.moments
+
+-- ---- plain expressions
+
+-- the interval of `⍳` by its ends is the exact one of its numbers
+abbrev pub NumbersFromAreExact : Type 0
+NumbersFromAreExact = (o : ℤ) (n : ℕ) → exact_interval (map (counted_from o) (upward 0 n)) ≡ numbers_from o n

@@ -1,7 +1,7 @@
 -- Plain statements and their work. Both are judged where the statement begins, from its tree and the variables with
 -- their intervals, without a run. Of a plain expression the kind, the shape and the interval are known; elements are
 -- looked at in arguments of selections and of `⍳` alone.
-use Rattle.std.specs.Prelude.{ℕ, suc, ◌+◌, ◌*◌, ◌==◌, nat_le, ℤ, pos, ◌+ℤ◌, ◌-ℤ◌, int_le, int_lt, unsigned_abs, Bool, true, not, ◌&&◌, List, [], ◌∷◌, map, reverse, length, replicate, Option, Some, None, Result, Ok, Err, if◌then◌else◌}
+use Rattle.std.specs.Prelude.{ℕ, zero, suc, ◌+◌, ◌*◌, ◌==◌, nat_le, ℤ, pos, ◌+ℤ◌, int_le, int_lt, unsigned_abs, Bool, true, not, ◌&&◌, List, [], ◌∷◌, map, reverse, length, replicate, Option, Some, None, Result, Ok, Err, if◌then◌else◌}
 use Rattle.std.specs.List.{list_all, list_any}
 use Rattle.std.specs.Option.{option_map, option_and_then}
 use Rattle.apl_base.specs.declared.cells.Interval.{Interval}
@@ -64,7 +64,8 @@ name_operand v = operand (record { kind = v.array.kind; interval = v.kept }) v.a
 
 -- n numbers from o up
 abbrev pub numbers_from : ℤ → ℕ → Interval
-numbers_from o n = if n == 0 then Empty else Span o (o +ℤ pos n -ℤ pos 1)
+numbers_from o zero = Empty
+numbers_from o (suc n) = Span o (o +ℤ pos n)
 
 -- `⍳` of one number, without error; what it is of is an argument
 abbrev pub iota_operand : ℤ → Plain → Array → Option Plain

@@ -1,6 +1,6 @@
 //! The laws of ranged evaluation: each function does nothing, and its contract is the law.
 
-ghost use Rattle.apl_cost.specs.Laws.{ExpressionsForget, StatementsForget, CallsForget, RunsForget, ImmediateForgets, MeasuresForget, FootprintsAreAtMostPeak, FootprintsOfFirstItems, FirstFootprintsAreAtMostPeak};
+ghost use Rattle.apl_cost.specs.Laws.{ExpressionsForget, StatementsForget, CallsForget, RunsForget, ImmediateForgets, MeasuresForget, FootprintsAreAtMostPeak, FootprintsOfFirstItems, FirstFootprintsAreAtMostPeak, NumbersFromAreExact};
 
 /// Ranged evaluation comes to what evaluation comes to, once the intervals are forgotten.
 pub fn forgetting_gives_evaluation()
@@ -18,4 +18,9 @@ pub fn footprints_of_runs()
     ensures peak { FootprintsAreAtMostPeak }
     ensures first_items { FootprintsOfFirstItems }
     ensures first_peak { FirstFootprintsAreAtMostPeak }
+{}
+
+/// The interval that a plain `⍳` has by its ends is the exact one of its numbers.
+pub fn numbers_from_are_exact()
+    ensures { NumbersFromAreExact }
 {}

@@ -6,4 +6,4 @@ mod examples;
 mod laws;
 
 pub use examples::{examples_of_runs, examples_of_work};
-pub use laws::{footprints_of_runs, forgetting_gives_evaluation};
+pub use laws::{footprints_of_runs, forgetting_gives_evaluation, numbers_from_are_exact};
