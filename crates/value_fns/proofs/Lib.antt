@@ -6,3 +6,4 @@ pub mod Ends
 pub mod Looked
 pub mod Graded
 pub mod Decoding
+pub mod Encoding

@@ -1,3 +1,4 @@
 pub mod Placed
 pub mod Searches
 pub mod Decoded
+pub mod Digits

@@ -2,6 +2,7 @@
 #![tactic(auto)]
 
 mod decodes;
+mod digits;
 mod grades;
 mod kinds;
 mod memberships;
