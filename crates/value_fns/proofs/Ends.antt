@@ -17,7 +17,7 @@ use Rattle.made_leaf.specs.Made.{Fetched, IsMadeBy, IsAnswered, IsRoomFault}
 use Rattle.made_leaf.proofs.MadeLemmas.{room_made, memory_made, leaf_made}
 
 -- an answer that is an error is this one
-err_exit : (P : Result Leaf MadeFault → Type 0) (r : Result Leaf MadeFault) (fault : MadeFault) → IsErrAnd r (λ e. e ≡ fault) → P (Err fault) → P r
+pub err_exit : (P : Result Leaf MadeFault → Type 0) (r : Result Leaf MadeFault) (fault : MadeFault) → IsErrAnd r (λ e. e ≡ fault) → P (Err fault) → P r
 err_exit P (Ok leaf) fault h p = absurd h
 err_exit P (Err e) fault h p = subst (λ (f : MadeFault). P (Err f)) (sym h) p
 

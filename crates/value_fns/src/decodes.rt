@@ -149,8 +149,8 @@ fn matched_cell(leaf: &Leaf, only: Option<Cell>, place: u64, store: &mut Store) 
     }
 }
 
-// The cell of a leaf at a place of its row-major order, counted from 0. It fetches that cell.
-fn cell_at(leaf: &Leaf, place: u64, store: &mut Store) -> Cell
+/// The cell of a leaf at a place of its row-major order, counted from 0. It fetches that cell.
+pub(crate) fn cell_at(leaf: &Leaf, place: u64, store: &mut Store) -> Cell
     requires lawful { IsLawfulLeaf store.old leaf.now }
     requires place { place < size_of (leaf_shape leaf.now) }
     ensures cell { result ≡ slice_index_or (array_of store.old leaf.now).cells place (pos 0) }

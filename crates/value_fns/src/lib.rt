@@ -3,6 +3,7 @@
 
 mod decodes;
 mod digits;
+mod encodes;
 mod grades;
 mod kinds;
 mod memberships;
@@ -10,5 +11,6 @@ mod orders;
 mod searches;
 
 pub use decodes::decode;
+pub use encodes::encode;
 pub use grades::grade;
 pub use memberships::{index_of, member};

@@ -1,4 +1,4 @@
-use Rattle.std.proofs.Common.{◌≡◌, ◌∙◌, ◌<◌, ℕ, ℤ, List, pos, get_or, length, ap, sym, subst, All, arith, rules, to_z, of_z, to_z-of_z, FitsSigned}
+use Rattle.std.proofs.Common.{◌∙◌, ◌<◌, pos, get_or, length, ap, sym, subst, arith, rules, to_z, of_z, to_z-of_z, FitsSigned}
 use Rattle.std.specs.Int.{w128}
 use Rattle.std.proofs.lemmas.List.Elements.{All-set}
 use Rattle.apl_base.specs.Number.{IsNumber}

@@ -1,5 +1,4 @@
-use Rattle.std.proofs.Common.{◌≡◌, ◌∙◌, ◌<◌, ◌≤◌, ◌*◌, ◌+◌, ◌-◌, ◌++◌, to_z-of_z, FitsSigned, ℕ, ℤ, List, pos, get_or, length, drop, ap, sym, subst, All, arith, rules}
-use Rattle.apl_base.specs.Number.{IsNumber}
+use Rattle.std.proofs.Common.{◌≡◌, ◌∙◌, ◌<◌, ◌≤◌, ◌*◌, ◌+◌, ◌-◌, ◌++◌, to_z-of_z, FitsSigned, ℤ, List, pos, get_or, length, drop, ap, arith, rules}
 use Rattle.std.proofs.Math.Nat.{mul-le-mul_right}
 use borrow.Rule.Slice.PartMut.{post_of, Post-is}
 use Rattle.std.specs.Int.{w128}

@@ -1,4 +1,4 @@
-use Rattle.std.proofs.Common.{◌≡◌, ◌≤◌, ◌*◌, ◌++◌, map, length, drop, All}
+use Rattle.std.proofs.Common.{◌≡◌, ◌≤◌, ◌*◌, map, length, drop, All}
 use Rattle.apl_base.specs.Number.{IsNumber}
 use Rattle.value_fns.specs.Digits.{left_over, digit_table}
 use Rattle.value_fns.proofs.digits.fill_table.Given as goal
