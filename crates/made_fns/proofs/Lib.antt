@@ -7,3 +7,4 @@ pub mod ScanLemmas
 pub mod ReshapeLemmas
 pub mod AxisLemmas
 pub mod TurnLemmas
+pub mod TestLemmas

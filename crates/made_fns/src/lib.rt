@@ -15,3 +15,6 @@ pub use joins::catenate;
 pub use reshapes::reshape;
 pub use turns::rotate;
 pub use vectors::{iota, ravel, shape_of};
+
+#[cfg(test)]
+mod worked;

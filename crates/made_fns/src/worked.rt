@@ -1,0 +1,105 @@
+//! One worked call of each function, with ample memory and no room to spare.
+ghost use Rattle.std.specs.Prelude.{◌≡◌, IfOk};
+ghost use Rattle.array_store.specs.Stores.{StoreView};
+ghost use Rattle.drag_along.specs.Lawful.{IsLawfulLeaf};
+ghost use Rattle.drag_along.specs.Nodes.{leaf_shape};
+
+use crate::{catenate, ravel, reshape, rotate, shape_of};
+use apl_base::{Cell, Kind, Shape};
+use apl_model::Axis;
+use array_desc::Desc;
+use array_store::Store;
+use drag_along::Leaf;
+use made_leaf::{MadeFault, read_block};
+use std::alloc::Global;
+use std::test::Fail;
+
+// The numbers from 0 up, in row-major order.
+fn counting(alloc: Global, lengths: &[u64]) -> Result<Leaf, Fail>
+    ensures lawful { IfOk result (λ leaf. (store : StoreView) → IsLawfulLeaf store leaf) }
+{
+    let shape = Shape::of(alloc, lengths)?;
+    Ok(Leaf::Gen {
+        desc: Desc::whole(&shape),
+        kind: Kind::Num,
+    })
+}
+
+// Whether a leaf has these lengths, and its owner these cells.
+fn is_made(leaf: &Leaf, lengths: &[u64], cells: &[Cell], store: &mut Store) -> bool
+    requires { IsLawfulLeaf store.old leaf.now }
+{
+    let mut read = [0; 6];
+    let count = leaf.desc().size() as usize;
+    if count > 6 || count != cells.len() {
+        return false;
+    }
+    read_block(leaf, 0, store, &mut read[..count]);
+    leaf.desc().shape.lengths() == lengths && &read[..count] == cells
+}
+
+// The vector 2 2.
+fn twos(alloc: Global) -> Leaf
+    ensures lawful { (store : StoreView) → IsLawfulLeaf store result }
+{
+    Leaf::Gen {
+        desc: Desc::line(alloc, 2, 0, 2),
+        kind: Kind::Num,
+    }
+}
+
+fn turns_lines(alloc: Global) -> Result<bool, Fail> {
+    let mut store = Store::new(alloc, 6);
+    let by = counting(alloc, &[2])?;
+    let table = counting(alloc, &[2, 3])?;
+    let made = rotate(&by, &table, Axis::Last, &mut store)?;
+    Ok(is_made(&made, &[2, 3], &[0, 1, 2, 4, 5, 3], &mut store))
+}
+
+fn repeats_elements(alloc: Global) -> Result<bool, Fail> {
+    let mut store = Store::new(alloc, 4);
+    let by = twos(alloc);
+    let vector = counting(alloc, &[3])?;
+    let made = reshape(&by, &vector, &mut store)?;
+    Ok(is_made(&made, &[2, 2], &[0, 1, 2, 0], &mut store))
+}
+
+fn joins_vectors(alloc: Global) -> Result<bool, Fail> {
+    let mut store = Store::new(alloc, 5);
+    let first = counting(alloc, &[2])?;
+    let second = counting(alloc, &[3])?;
+    let made = catenate(&first, &second, &mut store)?;
+    Ok(is_made(&made, &[5], &[0, 1, 0, 1, 2], &mut store))
+}
+
+fn lists_elements(alloc: Global) -> Result<bool, Fail> {
+    let mut store = Store::new(alloc, 6);
+    let table = counting(alloc, &[2, 3])?;
+    let made = ravel(&table, &mut store)?;
+    Ok(is_made(&made, &[6], &[0, 1, 2, 3, 4, 5], &mut store))
+}
+
+fn lists_lengths(alloc: Global) -> Result<bool, Fail> {
+    let mut store = Store::new(alloc, 2);
+    let table = counting(alloc, &[2, 3])?;
+    let made = shape_of(&table, &mut store)?;
+    Ok(is_made(&made, &[2], &[2, 3], &mut store))
+}
+
+fn refuses_for_room(alloc: Global) -> Result<bool, Fail> {
+    let mut store = Store::new(alloc, 5);
+    let table = counting(alloc, &[2, 3])?;
+    let refused = ravel(&table, &mut store).err();
+    Ok(refused == Some(MadeFault::WsFull { live: 0, asked: 6 }))
+}
+
+#[test]
+fn worked_calls(rt: HostRuntime) -> Result<(), Fail> {
+    assert!(rt; turns_lines(rt.alloc())?);
+    assert!(rt; repeats_elements(rt.alloc())?);
+    assert!(rt; joins_vectors(rt.alloc())?);
+    assert!(rt; lists_elements(rt.alloc())?);
+    assert!(rt; lists_lengths(rt.alloc())?);
+    assert!(rt; refuses_for_room(rt.alloc())?);
+    Ok(())
+}
