@@ -2,3 +2,4 @@ pub mod Counting
 pub mod Forgetting
 pub mod Growing
 pub mod Measuring
+pub mod Selecting

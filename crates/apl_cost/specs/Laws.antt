@@ -1,6 +1,6 @@
 -- What holds of ranged evaluation. Each law is the contract of a function in src/laws.
 use Rattle.std.specs.List.{AllByRecursion}
-use Rattle.std.specs.Prelude.{◌≡◌, ℕ, ℤ, ◌≤◌, List, ◌++◌, map}
+use Rattle.std.specs.Prelude.{◌≡◌, ℕ, ℤ, ◌≤◌, List, ◌++◌, map, Option, Some, Ok}
 use Rattle.apl_model.specs.Agreement.{mapped_outcome, mapped_flow, mapped_run, CallsAgree}
 use Rattle.apl_model.specs.Call.{call_within}
 use Rattle.apl_model.specs.Evaluation.{Calls, value_of, statement_flow}
@@ -9,10 +9,14 @@ use Rattle.apl_model.specs.Order.{CallsOf, value_in}
 use Rattle.apl_model.specs.Tree.{Definition, Item, Script, Statement, Tree}
 use Rattle.apl_cost.specs.Ranges.{RangedArray, array_of}
 use Rattle.apl_cost.specs.RangedEvaluation.{RangedState, forgotten, of_ranged, of_ranged_states, ranged_flow, ranged_items}
+use Rattle.apl_base.specs.Array.{Array}
 use Rattle.apl_base.specs.Interval.{exact_interval}
 use Rattle.apl_base.specs.Selection.{upward}
-use Rattle.apl_model.specs.Made.{counted_from}
-use Rattle.apl_cost.specs.Plain.{numbers_from}
+use Rattle.apl_model.specs.declared.functions.Axis.{Axis}
+use Rattle.apl_model.specs.Made.{counted_from, take_or_pad, drop_from, transposed, reversed}
+use Rattle.apl_model.specs.Subscript.{subscript}
+use Rattle.apl_model.specs.Whole.{Answer}
+use Rattle.apl_cost.specs.Plain.{numbers_from, with_axes, taken_lengths, dropped_lengths, transposed_lengths, reversed_lengths, subscript_lengths}
 use Rattle.apl_cost.specs.Footprint.{Measured, measured_items, footprints, peak}
 
 -- ---- forgetting the intervals gives evaluation: the same value or error, its place, and the state that is left
@@ -71,3 +75,25 @@ FirstFootprintsAreAtMostPeak = (script : Script) (items more : List Item) (n : �
 -- the interval of `⍳` by its ends is the exact one of its numbers
 abbrev pub NumbersFromAreExact : Type 0
 NumbersFromAreExact = (o : ℤ) (n : ℕ) → exact_interval (map (counted_from o) (upward 0 n)) ≡ numbers_from o n
+
+-- the answer is an array of this shape
+pub record HasShape (answer : Answer) (ns : List ℕ) : Type 0 where
+  pub array : Array
+  pub made : answer ≡ Ok array
+  pub shape : array.shape ≡ ns
+
+-- a selection that has lengths by those of its argument is made without error, and has them
+abbrev pub TakesHaveLengths : Type 0
+TakesHaveLengths = (a b : Array) (ns : List ℕ) → taken_lengths a (with_axes a b.shape) ≡ Some ns → HasShape (take_or_pad a b) ns
+
+abbrev pub DropsHaveLengths : Type 0
+DropsHaveLengths = (a b : Array) (ns : List ℕ) → dropped_lengths a (with_axes a b.shape) ≡ Some ns → HasShape (drop_from a b) ns
+
+abbrev pub TransposesHaveLengths : Type 0
+TransposesHaveLengths = (o : ℤ) (a b : Array) (ns : List ℕ) → transposed_lengths o a b.shape ≡ Some ns → HasShape (transposed o a b) ns
+
+abbrev pub ReversalsHaveLengths : Type 0
+ReversalsHaveLengths = (o : ℤ) (axis : Axis) (b : Array) (ns : List ℕ) → reversed_lengths o axis b.shape ≡ Some ns → HasShape (reversed o axis b) ns
+
+abbrev pub SubscriptsHaveLengths : Type 0
+SubscriptsHaveLengths = (o : ℤ) (ps : List (Option Array)) (b : Array) (ns : List ℕ) → subscript_lengths o ps b.shape ≡ Some ns → HasShape (subscript o b ps) ns

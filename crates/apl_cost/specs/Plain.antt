@@ -111,6 +111,10 @@ is_axis o Last r = true
 is_axis o First r = true
 is_axis o (Numbered k) r = int_le o k && int_lt k (o +ℤ pos r)
 
+-- `⌽B` and the like
+abbrev pub reversed_lengths : ℤ → Axis → List ℕ → Option (List ℕ)
+reversed_lengths o axis ns = shape_where (is_axis o axis (length ns)) ns
+
 -- a scalar is first given axes of length 1, as many as there are counts
 abbrev pub with_axes : Array → List ℕ → List ℕ
 with_axes a ns = if length ns == 0 then replicate (count a) 1 else ns
@@ -182,7 +186,7 @@ positions_here s (position q qs) = slot_here s q ∷ positions_here s qs
 abbrev pub plain1 : ℤ → MonFn → (Unit {0} → Option Array) → Plain → Option Plain
 plain1 o (monadic_fn.Scalar f) value b = applied (ranged1 f b.side) b.shape b
 plain1 o monadic_fn.Iota value b = option_and_then (iota_operand o b) (value tt)
-plain1 o (monadic_fn.Reverse axis) value b = option_map (selected b no_arguments) (shape_where (is_axis o axis (length b.shape)) b.shape)
+plain1 o (monadic_fn.Reverse axis) value b = option_map (selected b no_arguments) (reversed_lengths o axis b.shape)
 plain1 o monadic_fn.Transpose value b = Some (selected b no_arguments (reverse b.shape))
 plain1 o f value b = None
 

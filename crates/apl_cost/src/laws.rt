@@ -1,6 +1,6 @@
 //! The laws of ranged evaluation: each function does nothing, and its contract is the law.
 
-ghost use Rattle.apl_cost.specs.Laws.{ExpressionsForget, StatementsForget, CallsForget, RunsForget, ImmediateForgets, MeasuresForget, FootprintsAreAtMostPeak, FootprintsOfFirstItems, FirstFootprintsAreAtMostPeak, NumbersFromAreExact};
+ghost use Rattle.apl_cost.specs.Laws.{ExpressionsForget, StatementsForget, CallsForget, RunsForget, ImmediateForgets, MeasuresForget, FootprintsAreAtMostPeak, FootprintsOfFirstItems, FirstFootprintsAreAtMostPeak, NumbersFromAreExact, TakesHaveLengths, DropsHaveLengths, TransposesHaveLengths, ReversalsHaveLengths, SubscriptsHaveLengths};
 
 /// Ranged evaluation comes to what evaluation comes to, once the intervals are forgotten.
 pub fn forgetting_gives_evaluation()
@@ -23,4 +23,13 @@ pub fn footprints_of_runs()
 /// The interval that a plain `⍳` has by its ends is the exact one of its numbers.
 pub fn numbers_from_are_exact()
     ensures { NumbersFromAreExact }
+{}
+
+/// A selection that has lengths, by those of its argument alone, is made without error and has them.
+pub fn selections_have_lengths()
+    ensures takes { TakesHaveLengths }
+    ensures drops { DropsHaveLengths }
+    ensures transposes { TransposesHaveLengths }
+    ensures reversals { ReversalsHaveLengths }
+    ensures subscripts { SubscriptsHaveLengths }
 {}

@@ -6,4 +6,7 @@ mod examples;
 mod laws;
 
 pub use examples::{examples_of_runs, examples_of_work};
-pub use laws::{footprints_of_runs, forgetting_gives_evaluation, numbers_from_are_exact};
+pub use laws::{
+    footprints_of_runs, forgetting_gives_evaluation, numbers_from_are_exact,
+    selections_have_lengths,
+};
