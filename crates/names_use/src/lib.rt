@@ -1,6 +1,8 @@
-//! A use of names, proved from their public clauses alone.
+//! A use of names, proved from their public clauses; and the tests of names.
 #![tactic(auto)]
 
+#[cfg(test)]
+mod tests;
 mod uses;
 
 pub use uses::{enter, first_element, forget, leave, nothing, set_copies, set_first, share};
