@@ -1,6 +1,6 @@
 -- What holds of ranged evaluation. Each law is the contract of a function in src/laws.
 use Rattle.std.specs.List.{AllByRecursion}
-use Rattle.std.specs.Prelude.{◌≡◌, ℕ, ℤ, ◌≤◌, List, ◌++◌, map, Option, Some, Ok}
+use Rattle.std.specs.Prelude.{◌≡◌, ℕ, ℤ, ◌≤◌, List, ◌++◌, map, length, Option, Some, Ok, IsTrue}
 use Rattle.apl_model.specs.Agreement.{mapped_outcome, mapped_flow, mapped_run, CallsAgree}
 use Rattle.apl_model.specs.Call.{call_within}
 use Rattle.apl_model.specs.Evaluation.{Calls, value_of, statement_flow}
@@ -9,8 +9,14 @@ use Rattle.apl_model.specs.Order.{CallsOf, value_in}
 use Rattle.apl_model.specs.Tree.{Definition, Item, Script, Statement, Tree}
 use Rattle.apl_cost.specs.Ranges.{RangedArray, array_of}
 use Rattle.apl_cost.specs.RangedEvaluation.{RangedState, forgotten, of_ranged, of_ranged_states, ranged_flow, ranged_items}
-use Rattle.apl_base.specs.Array.{Array}
-use Rattle.apl_base.specs.Interval.{exact_interval}
+use Rattle.apl_base.specs.Array.{Array, size_of}
+use Rattle.apl_base.specs.declared.cells.Interval.{Interval}
+use Rattle.apl_base.specs.declared.cells.Kind.TheVariants.{Num}
+use Rattle.apl_base.specs.declared.rows.Dya.{Dya}
+use Rattle.apl_base.specs.declared.rows.Mon.{Mon}
+use Rattle.apl_model.specs.Lift.{lift1, lift2, fitting_shape}
+use Rattle.value_range.specs.Interval.{ranged1, ranged2}
+use Rattle.apl_base.specs.Interval.{exact_interval, IsInterval, InInterval}
 use Rattle.apl_base.specs.Selection.{upward}
 use Rattle.apl_model.specs.declared.functions.Axis.{Axis}
 use Rattle.apl_model.specs.Made.{counted_from, take_or_pad, drop_from, transposed, reversed}
@@ -97,3 +103,28 @@ ReversalsHaveLengths = (o : ℤ) (axis : Axis) (b : Array) (ns : List ℕ) → r
 
 abbrev pub SubscriptsHaveLengths : Type 0
 SubscriptsHaveLengths = (o : ℤ) (ps : List (Option Array)) (b : Array) (ns : List ℕ) → subscript_lengths o ps b.shape ≡ Some ns → HasShape (subscript o b ps) ns
+
+-- the cells of an array lie in an interval, and there are as many as its shape has elements
+pub record LiesIn (interval : Interval) (a : Array) : Type 0 where
+  pub lawful : IsInterval interval
+  pub count : length a.cells ≡ size_of a.shape
+  pub cells : AllByRecursion (InInterval interval) a.cells
+
+-- the answer is an array of numbers of this shape, with cells in this range
+pub record HasValueIn (answer : Answer) (ns : List ℕ) (range : Interval) : Type 0 where
+  pub array : Array
+  pub made : answer ≡ Ok array
+  pub shape : array.shape ≡ ns
+  pub kind : array.kind ≡ Num
+  pub cells : AllByRecursion (InInterval range) array.cells
+
+-- where the interval rules call a function of one argument safe, it has a value, in the range
+abbrev pub SafeFunctionsOfOne : Type 0
+SafeFunctionsOfOne = (f : Mon) (b : Array) (i : Interval) → LiesIn i b →
+    let answer = ranged1 f (record { kind = b.kind; interval = i }) in IsTrue answer.safe → HasValueIn (lift1 f b) b.shape answer.range
+
+-- and one of two arguments whose shapes fit
+abbrev pub SafeFunctionsOfTwo : Type 0
+SafeFunctionsOfTwo = (f : Dya) (a b : Array) (i j : Interval) (ns : List ℕ) → LiesIn i a → LiesIn j b → fitting_shape a.shape b.shape ≡ Ok ns →
+    let answer = ranged2 f (record { kind = a.kind; interval = i }) (record { kind = b.kind; interval = j }) in
+    IsTrue answer.safe → HasValueIn (lift2 f a b) ns answer.range

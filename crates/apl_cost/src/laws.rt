@@ -1,6 +1,6 @@
 //! The laws of ranged evaluation: each function does nothing, and its contract is the law.
 
-ghost use Rattle.apl_cost.specs.Laws.{ExpressionsForget, StatementsForget, CallsForget, RunsForget, ImmediateForgets, MeasuresForget, FootprintsAreAtMostPeak, FootprintsOfFirstItems, FirstFootprintsAreAtMostPeak, NumbersFromAreExact, TakesHaveLengths, DropsHaveLengths, TransposesHaveLengths, ReversalsHaveLengths, SubscriptsHaveLengths};
+ghost use Rattle.apl_cost.specs.Laws.{ExpressionsForget, StatementsForget, CallsForget, RunsForget, ImmediateForgets, MeasuresForget, FootprintsAreAtMostPeak, FootprintsOfFirstItems, FirstFootprintsAreAtMostPeak, NumbersFromAreExact, TakesHaveLengths, DropsHaveLengths, TransposesHaveLengths, ReversalsHaveLengths, SubscriptsHaveLengths, SafeFunctionsOfOne, SafeFunctionsOfTwo};
 
 /// Ranged evaluation comes to what evaluation comes to, once the intervals are forgotten.
 pub fn forgetting_gives_evaluation()
@@ -32,4 +32,10 @@ pub fn selections_have_lengths()
     ensures transposes { TransposesHaveLengths }
     ensures reversals { ReversalsHaveLengths }
     ensures subscripts { SubscriptsHaveLengths }
+{}
+
+/// Where the interval rules call a scalar function safe, over arrays whose shapes fit, it has a value in the range.
+pub fn safe_functions_have_values()
+    ensures one { SafeFunctionsOfOne }
+    ensures two { SafeFunctionsOfTwo }
 {}
