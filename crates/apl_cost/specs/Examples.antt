@@ -38,15 +38,19 @@ up_to n = monadic one.Iota (number n (at 1 1)) (at 1 1)
 abbrev pub times : Tree → Tree → Tree
 times a b = dyadic (two.Scalar dya.Mul) a b (at 1 1)
 
+-- `A-B`
 abbrev pub minus : Tree → Tree → Tree
 minus a b = dyadic (two.Scalar dya.Sub) a b (at 1 1)
 
+-- `A↑B`
 abbrev pub taken : Tree → Tree → Tree
 taken a b = dyadic two.Take a b (at 1 1)
 
+-- `⌽B`
 abbrev pub turned_round : Tree → Tree
 turned_round b = monadic (one.Reverse axis.Last) b (at 1 1)
 
+-- a number
 abbrev pub n_of : ℕ → Tree
 n_of n = number n (at 1 1)
 
@@ -73,9 +77,11 @@ WorkOfAReversal = plain_work nothing_set (expression (taken (integers (negative 
 abbrev pub five_products : Tree
 five_products = taken (n_of 5) (times (parenthesis (up_to 1000000000) (at 1 1)) (up_to 1000000000))
 
+-- so five products have work
 abbrev pub WorkOfAProduct : Type 0
 WorkOfAProduct = plain_work nothing_set (expression five_products) ≡ Some 45
 
+-- and their sum has none
 abbrev pub NoWorkOfASum : Type 0
 NoWorkOfASum = plain_work nothing_set (expression (reduction dya.Add axis.Last five_products (at 1 1))) ≡ None
 
@@ -88,6 +94,7 @@ WorkOverAName = (cells : List ℤ) →
 abbrev pub WorkOfSixtyFour : Type 0
 WorkOfSixtyFour = plain_work nothing_set (expression (negated 64)) ≡ Some 69
 
+-- 65 functions are too many
 abbrev pub NoWorkOfSixtyFive : Type 0
 NoWorkOfSixtyFive = plain_work nothing_set (expression (negated 65)) ≡ None
 
@@ -100,10 +107,12 @@ NoWorkWhereItMayFail = (cells : List ℤ) →
 abbrev pub by_positions : Tree → Tree
 by_positions p = subscript (name "A" (at 1 1)) (positions (given p ∷ [])) (at 1 1)
 
+-- `A[1 4 7]`
 abbrev pub WorkByAProgression : Type 0
 WorkByAProgression = (cells : List ℤ) →
     plain_work (bound_numbers "A" 9 cells (Span (pos 0) (pos 9))) (expression (by_positions (numbers (1 ∷ 4 ∷ 7 ∷ []) (at 1 1)))) ≡ Some 27
 
+-- `A[1 4 8]`
 abbrev pub NoWorkByOtherPositions : Type 0
 NoWorkByOtherPositions = (cells : List ℤ) →
     plain_work (bound_numbers "A" 9 cells (Span (pos 0) (pos 9))) (expression (by_positions (numbers (1 ∷ 4 ∷ 8 ∷ []) (at 1 1)))) ≡ None
@@ -113,6 +122,7 @@ abbrev pub NoWorkBeyondTheArray : Type 0
 NoWorkBeyondTheArray = (cells : List ℤ) →
     plain_work (bound_numbers "A" 9 cells (Span (pos 0) (pos 9))) (expression (by_positions (n_of 10))) ≡ None
 
+-- `10↑A`
 abbrev pub NoWorkOfPadding : Type 0
 NoWorkOfPadding = (cells : List ℤ) →
     plain_work (bound_numbers "A" 9 cells (Span (pos 0) (pos 9))) (expression (taken (n_of 10) (name "A" (at 1 1)))) ≡ None
@@ -123,12 +133,15 @@ NoWorkOfPadding = (cells : List ℤ) →
 abbrev pub interval_after : Script → List Item → Option Interval
 interval_after s items = option_map (λ v. v.kept) (look_up (ranged_items s items 9).state.variables (codes "A"))
 
+-- `A←2×⍳3`
 abbrev pub a_is_set : Item
 a_is_set = statement_item 1 (expression (sets "A" (times (number 2 (at 1 5)) (up_to 3)) (at 1 1)))
 
+-- `A[2]←9`
 abbrev pub a_is_written : Item
 a_is_written = statement_item 2 (expression (writes "A" (positions (given (number 2 (at 2 3)) ∷ [])) (number 9 (at 2 6)) (at 2 2)))
 
+-- `A←1↑A`
 abbrev pub a_is_part_of_a : Item
 a_is_part_of_a = statement_item 3 (expression (sets "A" (taken (n_of 1) (name "A" (at 3 5))) (at 3 1)))
 
@@ -140,14 +153,17 @@ written_script = script ("A←2×⍳3" ∷ "A[2]←9" ∷ "A←1↑A" ∷ []) (a
 abbrev pub IntervalOfAProduct : Type 0
 IntervalOfAProduct = interval_after written_script (a_is_set ∷ []) ≡ Some (Span (pos 2) (pos 6))
 
+-- after the write
 abbrev pub IntervalOfAWrite : Type 0
 IntervalOfAWrite = interval_after written_script (a_is_set ∷ a_is_written ∷ []) ≡ Some (Span (pos 2) (pos 9))
 
+-- after the selection
 abbrev pub IntervalOfASelection : Type 0
 IntervalOfASelection = interval_after written_script (a_is_set ∷ a_is_written ∷ a_is_part_of_a ∷ []) ≡ Some (Span (pos 2) (pos 9))
 
 -- ---- footprints
 
+-- `(⍳3)*2`
 abbrev pub squares : Tree
 squares = dyadic (two.Scalar dya.Pow) (parenthesis (up_to 3) (at 1 3)) (number 2 (at 1 8)) (at 1 7)
 
@@ -188,23 +204,29 @@ FootprintsOfACall =
 
 -- ---- intervals through calls, labels and commands
 
+-- `∇Z←F X` with the line `L:Z←X+L`
 abbrev pub a_function_of_a_label : Item
 a_function_of_a_label =
     definition 1 3 (header (Some (codes "Z")) None "F" (Some (codes "X")) [])
     (body_line 2 (label "L") (expression (sets "Z" (dyadic (two.Scalar dya.Add) (name "X" (at 2 5)) (name "L" (at 2 7)) (at 2 6)) (at 2 3))) ∷ [])
 
+-- `A←F 5 7`
 abbrev pub a_is_called : Item
 a_is_called = statement_item 4 (expression (sets "A" (calls "F" elided (given (numbers (5 ∷ 7 ∷ []) (at 4 5))) (at 4 3)) (at 4 1)))
 
+-- `A←⌽A×0`
 abbrev pub a_is_turned : Item
 a_is_turned = statement_item 5 (expression (sets "A" (turned_round (times (name "A" (at 5 4)) (n_of 0))) (at 5 1)))
 
+-- `)ERASE A`
 abbrev pub a_is_erased : Item
 a_is_erased = command_item 6 (Erase (codes "A" ∷ []))
 
+-- `)ORIGIN 0`
 abbrev pub the_origin_is_0 : Item
 the_origin_is_0 = command_item 7 (Origin (pos 0))
 
+-- `A←⍳3`
 abbrev pub a_counts : Item
 a_counts = statement_item 8 (expression (sets "A" (up_to 3) (at 8 1)))
 
@@ -217,12 +239,15 @@ called_script = script ("∇Z←F X" ∷ "L:Z←X+L" ∷ "∇" ∷ "A←F 5 7" �
 abbrev pub IntervalOfACall : Type 0
 IntervalOfACall = interval_after called_script (a_is_called ∷ []) ≡ Some (Span (pos 6) (pos 8))
 
+-- after the product was turned
 abbrev pub IntervalOfATurnedProduct : Type 0
 IntervalOfATurnedProduct = interval_after called_script (a_is_called ∷ a_is_turned ∷ []) ≡ Some (Span (pos 0) (pos 0))
 
+-- after the name was erased
 abbrev pub NoIntervalOfAnErasedName : Type 0
 NoIntervalOfAnErasedName = interval_after called_script (a_is_called ∷ a_is_turned ∷ a_is_erased ∷ []) ≡ None
 
+-- after the numbers from 0
 abbrev pub IntervalFromOriginZero : Type 0
 IntervalFromOriginZero = interval_after called_script (a_is_called ∷ a_is_turned ∷ a_is_erased ∷ the_origin_is_0 ∷ a_counts ∷ []) ≡ Some (Span (pos 0) (pos 2))
 

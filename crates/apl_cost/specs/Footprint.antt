@@ -44,6 +44,7 @@ pub record Measured : Type 0 where
 abbrev pub elements_in : Bindings RangedArray → ℕ
 elements_in bindings = sum_by (λ v. count v.array) (filter_map (λ b. b.1) bindings)
 
+-- of all frames and globals
 abbrev pub elements_of : Environment RangedArray → ℕ
 elements_of e = elements_in e.globals + sum_by elements_in e.frames
 
@@ -52,9 +53,11 @@ abbrev pub capped : ℕ → Option ℕ → ℕ
 capped had None = had
 capped had (Some work) = min had work
 
+-- what a statement in progress counts
 abbrev pub counted : Progress → ℕ
 counted p = capped p.had p.work
 
+-- the footprint of a state: its variables and its statements in progress
 abbrev pub footprint : Measured → ℕ
 footprint m = elements_of m.ranged.variables + sum_by counted m.progress
 
@@ -82,10 +85,12 @@ abbrev pub result_shape1 : MonFn → Array → Option (List ℕ)
 result_shape1 (monadic_fn.Scalar f) b = Some b.shape
 result_shape1 f b = None
 
+-- the shape that two arguments fit, if there is one
 abbrev pub fitting : Result (List ℕ) ErrorKind → Option (List ℕ)
 fitting (Ok ns) = Some ns
 fitting (Err e) = None
 
+-- of one of two arguments
 abbrev pub result_shape2 : DyaFn → Array → Array → Option (List ℕ)
 result_shape2 (dyadic_fn.Scalar f) a b = fitting (fitting_shape a.shape b.shape)
 result_shape2 f a b = None
@@ -96,6 +101,7 @@ axis_gone o Last ns = remove ns (length ns - 1)
 axis_gone o First ns = remove ns 0
 axis_gone o (Numbered k) ns = remove ns (unsigned_abs (k -ℤ o))
 
+-- the lawful shape of a reduction
 abbrev pub reduction_shape : ℤ → Axis → Array → Option (List ℕ)
 reduction_shape o axis b = if is_axis o axis (rank b) then lawful_shape (axis_gone o axis b.shape) else None
 
@@ -179,6 +185,7 @@ abbrev pub judged_by : Option ℕ → List Progress → List Progress
 judged_by work [] = []
 judged_by work (p ∷ ps) = record p { work = work } ∷ ps
 
+-- the state with the statement judged that has begun
 abbrev pub judged : Statement → Measured → Measured
 judged t m = record m { progress = judged_by (plain_work m.ranged t) m.progress }
 
@@ -233,5 +240,6 @@ abbrev pub greatest : List ℕ → ℕ
 greatest [] = 0
 greatest (n ∷ ns) = max n (greatest ns)
 
+-- the greatest footprint of a script's run with n turns, or 0
 abbrev pub peak : Script → ℕ → ℕ
 peak script n = greatest (footprints script n)

@@ -92,15 +92,19 @@ pub record HasShape (answer : Answer) (ns : List ℕ) : Type 0 where
 abbrev pub TakesHaveLengths : Type 0
 TakesHaveLengths = (a b : Array) (ns : List ℕ) → taken_lengths a (with_axes a b.shape) ≡ Some ns → HasShape (take_or_pad a b) ns
 
+-- `A↓B`
 abbrev pub DropsHaveLengths : Type 0
 DropsHaveLengths = (a b : Array) (ns : List ℕ) → dropped_lengths a (with_axes a b.shape) ≡ Some ns → HasShape (drop_from a b) ns
 
+-- `A⍉B`
 abbrev pub TransposesHaveLengths : Type 0
 TransposesHaveLengths = (o : ℤ) (a b : Array) (ns : List ℕ) → transposed_lengths o a b.shape ≡ Some ns → HasShape (transposed o a b) ns
 
+-- `⌽B` and the like
 abbrev pub ReversalsHaveLengths : Type 0
 ReversalsHaveLengths = (o : ℤ) (axis : Axis) (b : Array) (ns : List ℕ) → reversed_lengths o axis b.shape ≡ Some ns → HasShape (reversed o axis b) ns
 
+-- `B[I;J]`
 abbrev pub SubscriptsHaveLengths : Type 0
 SubscriptsHaveLengths = (o : ℤ) (ps : List (Option Array)) (b : Array) (ns : List ℕ) → subscript_lengths o ps b.shape ≡ Some ns → HasShape (subscript o b ps) ns
 

@@ -127,9 +127,11 @@ are_for_axes a ns = not (is_above_one a) && (count a == length ns) && not (is_te
 abbrev pub taken_lengths : Array → List ℕ → Option (List ℕ)
 taken_lengths a ns = shape_where (are_for_axes a ns && counts_fit ns a.cells && is_shape (take_shape a.cells)) (take_shape a.cells)
 
+-- without the first or the last of each axis
 abbrev pub dropped_lengths : Array → List ℕ → Option (List ℕ)
 dropped_lengths a ns = shape_where (are_for_axes a ns && is_shape (drop_shape ns a.cells)) (drop_shape ns a.cells)
 
+-- with its axes in the places that A names
 abbrev pub transposed_lengths : ℤ → Array → List ℕ → Option (List ℕ)
 transposed_lengths o a ns =
     shape_where (are_for_axes a ns && are_axes (less_origin o a)) (transpose_shape (map unsigned_abs (less_origin o a)) ns)
@@ -152,9 +154,11 @@ pub record Arguments : Type 0 where
   pub work : ℕ
   pub functions : ℕ
 
+-- none
 abbrev pub no_arguments : Arguments
 no_arguments = record { work = 0; functions = 0 }
 
+-- one more, by its own work
 abbrev pub argument_and : Plain → Arguments → Arguments
 argument_and p more = record { work = work_of p + more.work; functions = p.all_functions + more.functions }
 
@@ -170,6 +174,7 @@ value_if_done (done a t) = Some a
 value_if_done (fails kind place t) = None
 value_if_done (spent t) = None
 
+-- the value of an argument at the state where the statement begins
 abbrev pub value_here : RangedState → Tree → Option Array
 value_here s t = value_if_done (value_in arrays t (forgotten s))
 
@@ -178,6 +183,7 @@ abbrev pub slot_here : RangedState → Slot → Option Array
 slot_here s elided = None
 slot_here s (given t) = value_here s t
 
+-- those of all positions
 abbrev pub positions_here : RangedState → Positions → List (Option Array)
 positions_here s no_position = []
 positions_here s (position q qs) = slot_here s q ∷ positions_here s qs

@@ -36,10 +36,11 @@ forgotten s = record { variables = mapped array_of s.variables; printed = s.prin
 abbrev pub with_ranges : Environment RangedArray → State → RangedState
 with_ranges e s = record { variables = e; printed = s.printed; turns = s.turns; begun = s.begun; ended = s.ended }
 
--- the state with other variables, or with the name set
+-- the state with other variables
 abbrev pub with_variables : Environment RangedArray → RangedState → RangedState
 with_variables e s = record s { variables = e }
 
+-- with the name set
 abbrev pub with_name : List ℕ → RangedArray → RangedState → RangedState
 with_name name v s = with_variables (set_name s.variables name v) s
 

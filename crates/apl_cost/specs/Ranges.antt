@@ -38,6 +38,7 @@ exact_of a = exact_interval a.cells
 
 -- ---- what gives an array
 
+-- what the interval of an array goes by
 pub data Source : Type 0 where
   -- a literal, a label
   literal_source : Source
