@@ -4,8 +4,8 @@ ghost use Rattle.array_store.specs.Stores.{StoreView};
 ghost use Rattle.drag_along.specs.Lawful.{IsLawfulLeaf};
 ghost use Rattle.drag_along.specs.Nodes.{leaf_shape};
 
-use crate::{catenate, ravel, reshape, rotate, shape_of};
-use apl_base::{Cell, Kind, Shape};
+use crate::{catenate, iota, ravel, reshape, rotate, shape_of};
+use apl_base::{Cell, ErrorKind, Kind, Shape};
 use apl_model::Axis;
 use array_desc::Desc;
 use array_store::Store;
@@ -86,6 +86,91 @@ fn lists_lengths(alloc: Global) -> Result<bool, Fail> {
     Ok(is_made(&made, &[2], &[2, 3], &mut store))
 }
 
+// The numbers 2 1 0, read backwards from a vector.
+fn falling(alloc: Global) -> Result<Leaf, Fail>
+    ensures lawful { IfOk result (λ leaf. (store : StoreView) → IsLawfulLeaf store leaf) }
+{
+    let shape = Shape::of(alloc, &[3])?;
+    let mut desc = Desc::whole(&shape);
+    desc.reverse(0);
+    Ok(Leaf::Gen {
+        desc,
+        kind: Kind::Num,
+    })
+}
+
+fn lists_a_selection(alloc: Global) -> Result<bool, Fail> {
+    let mut store = Store::new(alloc, 3);
+    let vector = falling(alloc)?;
+    let made = ravel(&vector, &mut store)?;
+    Ok(is_made(&made, &[3], &[2, 1, 0], &mut store))
+}
+
+// The vector with ¯1 alone.
+fn minus_one(alloc: Global) -> Leaf
+    ensures lawful { (store : StoreView) → IsLawfulLeaf store result }
+{
+    Leaf::Gen {
+        desc: Desc::line(alloc, -1, 0, 1),
+        kind: Kind::Num,
+    }
+}
+
+// The vector of nine ones.
+fn nine_ones(alloc: Global) -> Leaf
+    ensures lawful { (store : StoreView) → IsLawfulLeaf store result }
+{
+    Leaf::Gen {
+        desc: Desc::line(alloc, 1, 0, 9),
+        kind: Kind::Num,
+    }
+}
+
+// Whether an answer is this error.
+fn is_error(answer: Result<Leaf, MadeFault>, kind: ErrorKind) -> bool {
+    answer.err() == Some(MadeFault::Error { kind })
+}
+
+fn refuses_shapes(alloc: Global) -> Result<bool, Fail> {
+    let mut store = Store::new(alloc, 0);
+    let none = counting(alloc, &[0])?;
+    let negative = minus_one(alloc);
+    let many = nine_ones(alloc);
+    let domain = reshape(&negative, &none, &mut store);
+    let length = reshape(&many, &none, &mut store);
+    Ok(is_error(domain, ErrorKind::Domain) && is_error(length, ErrorKind::Length))
+}
+
+fn refuses_too_many_axes(alloc: Global) -> Result<bool, Fail> {
+    let mut store = Store::new(alloc, 0);
+    let vector = counting(alloc, &[2])?;
+    let many = nine_ones(alloc);
+    Ok(is_error(reshape(&many, &vector, &mut store), ErrorKind::Limit))
+}
+
+fn refuses_turns(alloc: Global) -> Result<bool, Fail> {
+    let mut store = Store::new(alloc, 0);
+    let by = counting(alloc, &[2])?;
+    let table = counting(alloc, &[2, 3])?;
+    let axis = rotate(&by, &table, Axis::Numbered { k: 3 }, &mut store);
+    let length = rotate(&by, &table, Axis::First, &mut store);
+    Ok(is_error(axis, ErrorKind::Rank) && is_error(length, ErrorKind::Length))
+}
+
+fn refuses_a_table(alloc: Global) -> Result<bool, Fail> {
+    let mut store = Store::new(alloc, 0);
+    let vector = counting(alloc, &[2])?;
+    let table = counting(alloc, &[2, 3])?;
+    Ok(is_error(catenate(&vector, &table, &mut store), ErrorKind::Rank))
+}
+
+fn refuses_numbers(alloc: Global) -> bool {
+    let mut store = Store::new(alloc, 0);
+    let two = iota(&twos(alloc), 1, &mut store).err();
+    let negative = iota(&minus_one(alloc), 1, &mut store).err();
+    two == Some(ErrorKind::Length) && negative == Some(ErrorKind::Domain)
+}
+
 fn refuses_for_room(alloc: Global) -> Result<bool, Fail> {
     let mut store = Store::new(alloc, 5);
     let table = counting(alloc, &[2, 3])?;
@@ -100,6 +185,17 @@ fn worked_calls(rt: HostRuntime) -> Result<(), Fail> {
     assert!(rt; joins_vectors(rt.alloc())?);
     assert!(rt; lists_elements(rt.alloc())?);
     assert!(rt; lists_lengths(rt.alloc())?);
+    assert!(rt; lists_a_selection(rt.alloc())?);
+    Ok(())
+}
+
+#[test]
+fn refused_calls(rt: HostRuntime) -> Result<(), Fail> {
     assert!(rt; refuses_for_room(rt.alloc())?);
+    assert!(rt; refuses_shapes(rt.alloc())?);
+    assert!(rt; refuses_too_many_axes(rt.alloc())?);
+    assert!(rt; refuses_turns(rt.alloc())?);
+    assert!(rt; refuses_a_table(rt.alloc())?);
+    assert!(rt; refuses_numbers(rt.alloc()));
     Ok(())
 }
