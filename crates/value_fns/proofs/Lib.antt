@@ -7,3 +7,4 @@ pub mod Looked
 pub mod Graded
 pub mod Decoding
 pub mod Encoding
+pub mod Encoded

@@ -1,5 +1,5 @@
 use Rattle.std.proofs.Common.{ℤ, pos, int_lt, arith}
-use Rattle.value_fns.proofs.Encoding.{any_false}
+use Rattle.value_fns.proofs.Encoded.{any_false}
 use Rattle.value_fns.proofs.encodes.any_negative.Goals as goal
 
 pub returns : goal.returns

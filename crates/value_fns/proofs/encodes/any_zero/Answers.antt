@@ -1,6 +1,6 @@
 use Rattle.std.proofs.Common.{pos, arith}
 use Rattle.std.specs.Ordering.{int_eq}
-use Rattle.value_fns.proofs.Encoding.{any_false}
+use Rattle.value_fns.proofs.Encoded.{any_false}
 use Rattle.value_fns.proofs.encodes.any_zero.Goals as goal
 
 pub returns : goal.returns

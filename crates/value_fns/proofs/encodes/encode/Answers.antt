@@ -7,7 +7,7 @@ use Rattle.apl_model.specs.Made.{is_above_one}
 use Rattle.leaf_names.specs.Variables.{array_of}
 use Rattle.made_leaf.specs.Made.{Fetched, IsMadeBy}
 use Rattle.value_fns.proofs.Decoding.{low_ranks}
-use Rattle.value_fns.proofs.Encoding.{shaped_answer}
+use Rattle.value_fns.proofs.Encoded.{shaped_answer}
 use Rattle.value_fns.proofs.encodes.encode.Goals as goal
 
 pub returns-clause-made : goal.returns-clause-made

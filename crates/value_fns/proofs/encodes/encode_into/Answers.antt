@@ -13,7 +13,7 @@ use Rattle.leaf_names.specs.Variables.{array_of}
 use Rattle.value_fns.specs.Digits.{digit_table, is_undefined}
 use Rattle.value_fns.proofs.Ends.{made_of}
 use Rattle.value_fns.proofs.Decoding.{same_array}
-use Rattle.value_fns.proofs.Encoding.{table_array, table_count, table_numbers, encoded_ok, encoded_no_memory, encoded_error}
+use Rattle.value_fns.proofs.Encoded.{table_array, table_count, table_numbers, encoded_ok, encoded_no_memory, encoded_error}
 use Rattle.value_fns.proofs.encodes.encode_into.Goals as goal
 
 pub returns-in_err-bases-clause-made : goal.returns-in_err-bases-clause-made

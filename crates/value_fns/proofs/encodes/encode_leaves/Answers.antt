@@ -11,7 +11,7 @@ use Rattle.leaf_names.specs.Variables.{array_of}
 use Rattle.made_leaf.specs.Made.{IsRoomFault}
 use Rattle.value_fns.specs.Digits.{is_undefined}
 use Rattle.value_fns.proofs.Decoding.{same_array}
-use Rattle.value_fns.proofs.Encoding.{encoded_error, encoded_full, size_asked}
+use Rattle.value_fns.proofs.Encoded.{encoded_error, encoded_full, size_asked}
 use Rattle.value_fns.proofs.encodes.encode_leaves.Goals as goal
 use Rattle.value_fns.proofs.encodes.encode_leaves.Goals.{else-has_zero-via-then-has_zero+else-has_negative, else-has_zero-via-else-has_zero}
 

@@ -4,7 +4,7 @@ use Rattle.apl_base.proofs.Elements.{tabulated-count}
 use Rattle.array_desc.specs.Desc.{DescView}
 use Rattle.drag_along.specs.Meaning.{leaf_cell}
 use Rattle.leaf_names.specs.Variables.{array_of}
-use Rattle.value_fns.proofs.Encoding.{any_false}
+use Rattle.value_fns.proofs.Encoded.{any_false}
 use Rattle.value_fns.proofs.encodes.has_negative.Goals as goal
 
 pub returns-clause-value : goal.returns-clause-value
