@@ -8,6 +8,8 @@ use Rattle.array_store.specs.Stores.{StoreView, HasRoom}
 use Rattle.array_store.specs.Counting.{OnlyCounted, OnlyFetched}
 use Rattle.array_store.proofs.CountingLemmas.{OnlyFetched-none}
 use Rattle.drag_along.specs.declared.leaves.Leaf.{Leaf}
+use Rattle.drag_along.specs.Lawful.{IsLawfulLeaf}
+use Rattle.e_machine.proofs.WholeLemmas.{stands-made}
 use Rattle.e_machine.specs.Forced.{IsNewLeaf}
 use Rattle.apl_model.specs.Whole.{Answer, error_if}
 use Rattle.apl_model_laws.specs.Lawful.{IsAnswer}
@@ -79,3 +81,8 @@ widened old between new answer later most (Err made.NoMemory) same f h = record 
   room = λ n asks. room_before old between n f.only (h.room n (asks.0, sym same ∙ asks.1, asks.2));
   counted = subst (Fetched old most) (sym h.counted) f;
 }
+
+-- the leaf that is answered is lawful
+pub answered_lawful : (old new : StoreView) (answer : Answer) (most : ℕ) (leaf : Leaf) → IsAnswered (Fetched old most) new answer leaf → IsLawfulLeaf new leaf
+answered_lawful old new answer most leaf h =
+    (stands-made h.comes.made.between new h.comes.key h.array.cells h.array.shape h.array.kind leaf h.comes.made.makes h.comes.count h.comes.view).lawful

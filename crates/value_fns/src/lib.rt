@@ -14,3 +14,6 @@ pub use decodes::decode;
 pub use encodes::encode;
 pub use grades::grade;
 pub use memberships::{index_of, member};
+
+#[cfg(test)]
+mod tests;
