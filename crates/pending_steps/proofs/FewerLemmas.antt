@@ -1,5 +1,5 @@
 -- Entries that have no more functions pending than they had.
-use Rattle.std.proofs.Common.{◌≡◌, ℕ, zero, suc, ◌≤◌, Bool, true, false, List, [], ◌∷◌, Some, refl, ap, arith}
+use Rattle.std.proofs.Common.{◌≡◌, ℕ, zero, suc, ◌≤◌, ◌<◌, length, Bool, true, false, List, [], ◌∷◌, Some, refl, ap, arith}
 use Rattle.std.specs.Prelude.{slice_get, slice_set}
 use Rattle.array_store.specs.Stores.{StoreView}
 use Rattle.drag_along.specs.Nodes.{functions_in}
@@ -49,3 +49,12 @@ fewer_at (x ∷ before) (y ∷ after) zero b a f g h =
     let two : y ≡ a = cc in
     omega (arith, f.0, ap (λ (s : SegmentView). functions_in s.nodes) one, ap (λ (s : SegmentView). functions_in s.nodes) two)
 fewer_at (x ∷ before) (y ∷ after) (suc k) b a f g h = fewer_at before after k b a f.1 g h
+
+-- an entry without functions stays so
+pub none_stays : (before after : List SegmentView) (k : ℕ) (a : SegmentView) → AreFewer before after → k < length before → ((b : SegmentView) → slice_get before k ≡ Some b → functions_in b.nodes ≡ 0) → slice_get after k ≡ Some a → functions_in a.nodes ≡ 0
+none_stays [] after k a f w none h = absurd (omega (arith, w))
+none_stays (x ∷ before) [] k a f w none h = elim f [ ]
+none_stays (x ∷ before) (y ∷ after) zero a f w none h =
+    let same : y ≡ a = cc in
+    omega (arith, f.0, none x refl, ap (λ (s : SegmentView). functions_in s.nodes) same)
+none_stays (x ∷ before) (y ∷ after) (suc k) a f w none h = none_stays before after k a f.1 (omega (arith, w)) none h

@@ -3,3 +3,4 @@ pub mod StepLemmas
 pub mod ArrayLemmas
 pub mod PairLemmas
 pub mod FewerLemmas
+pub mod EndLemmas

@@ -7,6 +7,7 @@ mod joins;
 mod pairs;
 mod rooms;
 mod scalars;
+mod twos;
 
 pub use fits::{Fit, shapes_fit};
 pub use halts::Halt;
@@ -14,3 +15,4 @@ pub use joins::{extend, join_one, join_two};
 pub use pairs::{Operands, join_fitted};
 pub use rooms::{compute_entry, settle_entries};
 pub use scalars::scalar_one;
+pub use twos::scalar_two;
