@@ -4,3 +4,4 @@ pub mod ArrayLemmas
 pub mod PairLemmas
 pub mod FewerLemmas
 pub mod EndLemmas
+pub mod LeafLemmas

@@ -2,3 +2,4 @@ pub mod Fits
 pub mod Faults
 pub mod Shapes
 pub mod Steps
+pub mod Leaves

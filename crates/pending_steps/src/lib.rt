@@ -4,6 +4,7 @@
 mod fits;
 mod halts;
 mod joins;
+mod leaves;
 mod pairs;
 mod rooms;
 mod scalars;
@@ -12,6 +13,7 @@ mod twos;
 pub use fits::{Fit, shapes_fit};
 pub use halts::Halt;
 pub use joins::{extend, join_one, join_two};
+pub use leaves::{push_leaf, take_leaf};
 pub use pairs::{Operands, join_fitted};
 pub use rooms::{compute_entry, settle_entries};
 pub use scalars::scalar_one;
