@@ -5,3 +5,4 @@ pub mod PairLemmas
 pub mod FewerLemmas
 pub mod EndLemmas
 pub mod LeafLemmas
+pub mod LiteralLemmas

@@ -3,3 +3,4 @@ pub mod Faults
 pub mod Shapes
 pub mod Steps
 pub mod Leaves
+pub mod Literals
