@@ -6,3 +6,4 @@ pub mod FewerLemmas
 pub mod EndLemmas
 pub mod LeafLemmas
 pub mod LiteralLemmas
+pub mod HeldLemmas

@@ -19,6 +19,11 @@ pub record PutsLeaf (store : StoreView) (before after : List SegmentView) (leaf 
   pub means : entries store after ≡ entries store before ++ Means (array_of store leaf) ∷ []
   pub moves : Moves store store before after (named_by_leaf leaf) none
 
+-- a leaf is the newest entry and is held once more, and the others mean what they meant
+pub record PutsHeld (old new : StoreView) (before after : List SegmentView) (leaf : Leaf) : Type 0 where
+  pub means : entries new after ≡ entries old before ++ Means (array_of old leaf) ∷ []
+  pub moves : Moves old new before after none none
+
 -- the newest entry went, and a leaf is in hand that stands for the array that it meant; the others mean what they meant
 pub record TakesLeaf (old new : StoreView) (before after : List SegmentView) (leaf : Leaf) : Type 0 where
   pub array : Array

@@ -14,7 +14,7 @@ mod twos;
 pub use fits::{Fit, shapes_fit};
 pub use halts::Halt;
 pub use joins::{extend, join_one, join_two};
-pub use leaves::{push_leaf, take_leaf};
+pub use leaves::{drop_newest, push_held, push_leaf, take_leaf};
 pub use literals::push_literal;
 pub use pairs::{Operands, join_fitted};
 pub use rooms::{compute_entry, settle_entries};
