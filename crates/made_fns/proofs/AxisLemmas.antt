@@ -59,7 +59,7 @@ pub record Stretches (o b m i q p : ℕ) : Type 0 where
   pub line : p / (m * i) ≡ o * b + q / (m * i)
   pub rest : p % i ≡ q % i
 
-stretches : (o b m i q p s : ℕ) → s ≡ b * (m * i) → s * o + q ≡ p → q < s → Stretches o b m i q p
+pub stretches : (o b m i q p s : ℕ) → s ≡ b * (m * i) → s * o + q ≡ p → q < s → Stretches o b m i q p
 stretches o b m i q p s size whole less =
     let some = some_factors b m i s q size less in
     let out : s * o ≡ (b * (m * i)) * o = ap (λ (n : ℕ). n * o) size in

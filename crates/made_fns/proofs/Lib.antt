@@ -1,7 +1,9 @@
 pub mod Finish
 pub mod IotaLemmas
 pub mod JoinLemmas
+pub mod KeepLemmas
 pub mod Lengths
+pub mod SpreadLemmas
 pub mod Tests
 pub mod ScanLemmas
 pub mod ReshapeLemmas

@@ -31,12 +31,12 @@ pub record InLine (ns : List ℕ) (k p : ℕ) : Type 0 where
   pub line : line_at ns k p < size_of (remove ns k)
   pub lines : slice_index ns k * run_of ns k ≤ size_of ns
 
-below_product : (a i j n : ℕ) → a < n → j < i → a * i + j < n * i
+pub below_product : (a i j n : ℕ) → a < n → j < i → a * i + j < n * i
 below_product a i j n h g =
     let more : suc a * i ≤ n * i = mul-le-mul_right i h in
     omega (arith, g, more)
 
-at_least : (b w s : ℕ) → s ≡ b * w → 0 < s → w ≤ s
+pub at_least : (b w s : ℕ) → s ≡ b * w → 0 < s → w ≤ s
 at_least zero w s e h = absurd (omega (arith, e, h))
 at_least (suc b) w s e h = omega (arith, e)
 

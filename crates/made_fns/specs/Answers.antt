@@ -1,5 +1,5 @@
 -- What the functions of this crate answer and count, beside what `made_leaf` says of all functions made at once.
-use Rattle.std.specs.Prelude.{◌≡◌, ℕ, ◌%◌, ℤ, pos, int_le, unsigned_abs, Bool, ◌&&◌, List, ◌++◌, map, slice_index_or, Result, Ok, Err}
+use Rattle.std.specs.Prelude.{ℕ, ◌%◌, ℤ, pos, int_le, unsigned_abs, Bool, ◌&&◌, ◌≡◌, ◌<◌, List, ◌++◌, length, map, slice_index, slice_index_or, Result, Ok, Err}
 use Rattle.apl_base.specs.declared.cells.Kind.TheVariants.{Num}
 use Rattle.apl_base.specs.declared.faults.ErrorKind.{ErrorKind}
 use Rattle.apl_base.specs.declared.faults.ErrorKind.TheVariants as error
@@ -13,7 +13,7 @@ use Rattle.drag_along.specs.declared.leaves.Leaf.TheVariants.{Gen}
 use Rattle.drag_along.specs.Nodes.{leaf_shape}
 use Rattle.drag_along.specs.Views.{StandsForArray}
 use Rattle.apl_model.specs.declared.functions.Axis.{Axis}
-use Rattle.apl_model.specs.Made.{joined_kind, on_axis, turn, turned_index}
+use Rattle.apl_model.specs.Made.{joined_kind, on_axis, turn, turned_index, extended_to, bits_along, compressed}
 use Rattle.apl_model.specs.Whole.{Answer, count, vector}
 use Rattle.leaf_names.specs.Variables.{array_of}
 
@@ -70,3 +70,16 @@ NoAxis axis rank = (make : ℕ → Answer) → on_axis (pos 1) axis rank make �
 -- B turned along an axis by A
 abbrev pub rotated_array : ℕ → Array → Array → Array
 rotated_array k a b = gathered b.shape (λ is. turned_index b.shape k (turn a k is) is) b
+
+-- ---- an axis that becomes shorter or longer
+
+-- the elements of B along axis k where A is 1
+abbrev pub kept_array : ℕ → Array → Array → Array
+kept_array k a b =
+    let c = extended_to (count a) b in
+    compressed k (bits_along (slice_index c.shape k) a) c
+
+-- axis k is one of B's, or of the vector to which B extends, and A has a number for each number on it
+pub record CanKeep (k : ℕ) (a b : Array) : Type 0 where
+  pub axis : k < length (extended_to (count a) b).shape
+  pub bits : length (bits_along (slice_index (extended_to (count a) b).shape k) a) ≡ slice_index (extended_to (count a) b).shape k

@@ -1,5 +1,5 @@
 -- Lines of an array along an axis, by the places of the row-major order.
-use Rattle.std.specs.Prelude.{ℕ, suc, ◌+◌, ◌-◌, ◌*◌, ◌/◌, ◌%◌, ◌==◌, ◌⊎◌, ◌≡◌, ℤ, pos, ◌+ℤ◌, unsigned_abs, List, length, drop, remove, slice_index, slice_index_or, if◌then◌else◌}
+use Rattle.std.specs.Prelude.{ℕ, suc, ◌+◌, ◌-◌, ◌*◌, ◌/◌, ◌%◌, ◌==◌, ◌⊎◌, ◌≡◌, ℤ, pos, ◌+ℤ◌, unsigned_abs, List, length, drop, remove, slice_index, slice_index_or, if◌then◌else◌, Option, Some, None}
 use Rattle.std.specs.Int.{int_rem_euclid}
 use Rattle.apl_base.specs.Array.{size_of}
 
@@ -29,3 +29,18 @@ turned_cell ns k turns items p =
 -- one number, or one for each line of B along the axis
 abbrev pub TurnsFit : List ℕ → List ℕ → ℕ → Type 0
 TurnsFit turns ns k = (size_of turns ≡ 1) ⊎ (turns ≡ remove ns k)
+
+-- ---- an axis that becomes shorter or longer
+
+-- the element at a source, which lies so many runs behind the base, or a blank
+abbrev pub placed : List ℤ → ℤ → ℕ → ℕ → Option ℕ → ℤ
+placed items blank base run (Some v) = slice_index_or items (base + v * run) (pos 0)
+placed items blank base run None = blank
+
+-- the element at a place of an array of these lengths, of which number j on axis k has the elements that `items` has at
+-- number `sources j` on that axis, whose length there is n
+abbrev pub spread_cell : List ℕ → ℕ → ℕ → List (Option ℕ) → List ℤ → ℤ → ℕ → ℤ
+spread_cell ns k n sources items blank p =
+    let run = run_of ns k in
+    placed items blank (p / (slice_index ns k * run) * (n * run) + p % run) run
+    (slice_index_or sources (p / run % slice_index ns k) None)

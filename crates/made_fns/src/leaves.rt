@@ -1,5 +1,5 @@
 //! What the functions ask of their arguments before they read them.
-ghost use Rattle.std.specs.Prelude.{◌≡◌, ◌^◌, ◌≤◌, ℤ, length};
+ghost use Rattle.std.specs.Prelude.{◌≡◌, ◌^◌, ◌≤◌, ◌==◌, ◌&&◌, nat_le, ℤ, length};
 ghost use Rattle.apl_base.specs.Array.{IsShape};
 ghost use Rattle.array_desc.specs.Desc.{IsDesc};
 ghost use Rattle.array_store.specs.Stores.{StoreView};
@@ -34,6 +34,14 @@ pub fn is_text(leaf: &Leaf) -> bool
     ensures { (store : StoreView) → result ≡ is_text_array (array_of store leaf.now) }
 {
     leaf.kind() == Kind::Char && elements(leaf) > 0
+}
+
+/// Whether a leaf has one element, and one axis at most.
+pub fn is_extendable(leaf: &Leaf) -> bool
+    ensures value { result ≡ (elements_in leaf.now == 1) && nat_le (length (leaf_shape leaf.now)) 1 }
+    ensures lawful { IsDesc (leaf_desc leaf.now) }
+{
+    elements(leaf) == 1 && rank(leaf) <= 1
 }
 
 /// The shape of a leaf.

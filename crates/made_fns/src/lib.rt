@@ -4,14 +4,18 @@
 #![tactic(auto)]
 
 mod axes;
+mod extends;
 mod joins;
+mod keeps;
 mod leaves;
 mod reshapes;
 mod scans;
+mod spreads;
 mod turns;
 mod vectors;
 
 pub use joins::catenate;
+pub use keeps::compress;
 pub use reshapes::reshape;
 pub use turns::rotate;
 pub use vectors::{iota, ravel, shape_of};

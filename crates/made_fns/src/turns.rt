@@ -182,8 +182,8 @@ fn turned_number(number: usize, by: Cell, axis: usize) -> usize
     (number as Cell + by).rem_euclid(axis as Cell) as usize
 }
 
-// How many elements lie behind an axis.
-fn size_behind(lengths: &[u64], axis: usize) -> usize
+/// How many elements lie behind an axis.
+pub fn size_behind(lengths: &[u64], axis: usize) -> usize
     requires axis { axis < length lengths.now }
     requires some { 0 < size_of lengths.now }
     requires few { size_of lengths.now ≤ 2 ^ 40 }
@@ -192,8 +192,8 @@ fn size_behind(lengths: &[u64], axis: usize) -> usize
     size_within(&lengths[axis + 1..]) as usize
 }
 
-// The product of the lengths, or one more than the limit where it is above the limit.
-fn size_within(lengths: &[u64]) -> u64
+/// The product of the lengths, or one more than the limit where it is above the limit.
+pub fn size_within(lengths: &[u64]) -> u64
     ensures { result ≡ min (size_of lengths.now) (2 ^ 40 + 1) }
 {
     let mut size: u64 = 1;
