@@ -3,5 +3,6 @@
 
 mod entries;
 mod machines;
+mod names;
 
 pub use machines::Machine;
