@@ -3,6 +3,7 @@ pub mod IotaLemmas
 pub mod JoinLemmas
 pub mod KeepLemmas
 pub mod Lengths
+pub mod SpaceLemmas
 pub mod SpreadLemmas
 pub mod Tests
 pub mod ScanLemmas

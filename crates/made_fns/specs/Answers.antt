@@ -1,10 +1,10 @@
 -- What the functions of this crate answer and count, beside what `made_leaf` says of all functions made at once.
-use Rattle.std.specs.Prelude.{ℕ, ◌%◌, ℤ, pos, int_le, unsigned_abs, Bool, ◌&&◌, ◌≡◌, ◌<◌, List, ◌++◌, length, map, slice_index, slice_index_or, Result, Ok, Err}
+use Rattle.std.specs.Prelude.{ℕ, ◌%◌, ℤ, pos, int_le, unsigned_abs, Bool, ◌&&◌, ◌≡◌, ◌<◌, List, ◌++◌, length, map, slice_index, slice_index_or, slice_set, not, ◌==◌, Result, Ok, Err}
 use Rattle.apl_base.specs.declared.cells.Kind.TheVariants.{Num}
 use Rattle.apl_base.specs.declared.faults.ErrorKind.{ErrorKind}
 use Rattle.apl_base.specs.declared.faults.ErrorKind.TheVariants as error
 use Rattle.apl_base.specs.Array.{Array, size_of}
-use Rattle.apl_base.specs.Elements.{gathered}
+use Rattle.apl_base.specs.Elements.{gathered, tabulated}
 use Rattle.apl_base.specs.Selection.{upward}
 use Rattle.array_desc.specs.Desc.{DescView}
 use Rattle.array_store.specs.Stores.{StoreView}
@@ -13,8 +13,8 @@ use Rattle.drag_along.specs.declared.leaves.Leaf.TheVariants.{Gen}
 use Rattle.drag_along.specs.Nodes.{leaf_shape}
 use Rattle.drag_along.specs.Views.{StandsForArray}
 use Rattle.apl_model.specs.declared.functions.Axis.{Axis}
-use Rattle.apl_model.specs.Made.{joined_kind, on_axis, turn, turned_index, extended_to, bits_along, compressed}
-use Rattle.apl_model.specs.Whole.{Answer, count, vector}
+use Rattle.apl_model.specs.Made.{joined_kind, on_axis, turn, turned_index, extended_to, bits_along, compressed, ones, spaced, expanded, read_or_fill}
+use Rattle.apl_model.specs.Whole.{Answer, count, is_extendable, error_if, vector}
 use Rattle.leaf_names.specs.Variables.{array_of}
 
 -- how many elements a leaf has
@@ -83,3 +83,20 @@ kept_array k a b =
 pub record CanKeep (k : ℕ) (a b : Array) : Type 0 where
   pub axis : k < length (extended_to (count a) b).shape
   pub bits : length (bits_along (slice_index (extended_to (count a) b).shape k) a) ≡ slice_index (extended_to (count a) b).shape k
+
+-- B with its next elements along axis k where A is 1, and filled where A is 0
+abbrev pub spaced_array : ℕ → Array → Array → Array
+spaced_array k a b =
+    let c = extended_to (ones a.cells) b in
+    tabulated c.kind (slice_set c.shape k (length a.cells)) (λ is. read_or_fill c (spaced k a.cells is))
+
+-- what is answered once A is known to have bits: B has as many elements along axis k as A has ones, or extends
+abbrev pub spaced_answer : ℕ → Array → Array → Answer
+spaced_answer k a b =
+    error_if error.Length (not (is_extendable b) && not (ones a.cells == slice_index b.shape k))
+    (expanded k a.cells (extended_to (ones a.cells) b))
+
+-- axis k is one of B's, or of the vector to which B extends, and has n numbers
+pub record CanSpace (k n : ℕ) (b : Array) : Type 0 where
+  pub axis : k < length (extended_to n b).shape
+  pub ones : n ≡ slice_index (extended_to n b).shape k

@@ -1,7 +1,9 @@
 -- Lines of an array along an axis, by the places of the row-major order.
-use Rattle.std.specs.Prelude.{ℕ, suc, ◌+◌, ◌-◌, ◌*◌, ◌/◌, ◌%◌, ◌==◌, ◌⊎◌, ◌≡◌, ℤ, pos, ◌+ℤ◌, unsigned_abs, List, length, drop, remove, slice_index, slice_index_or, if◌then◌else◌, Option, Some, None}
+use Rattle.std.specs.Prelude.{ℕ, suc, ◌+◌, ◌-◌, ◌*◌, ◌/◌, ◌%◌, ◌==◌, ◌⊎◌, ◌≡◌, ℤ, pos, ◌+ℤ◌, unsigned_abs, List, length, take, drop, remove, slice_index, slice_index_or, if◌then◌else◌, Option, Some, None}
 use Rattle.std.specs.Int.{int_rem_euclid}
+use Rattle.std.specs.Ordering.{int_eq}
 use Rattle.apl_base.specs.Array.{size_of}
+use Rattle.apl_model.specs.Made.{ones}
 
 -- how many elements lie behind an axis
 abbrev pub run_of : List ℕ → ℕ → ℕ
@@ -44,3 +46,7 @@ spread_cell ns k n sources items blank p =
     let run = run_of ns k in
     placed items blank (p / (slice_index ns k * run) * (n * run) + p % run) run
     (slice_index_or sources (p / run % slice_index ns k) None)
+
+-- the source of number j on an axis that is spread by bits: none at a 0, and at a 1 the number of ones before it
+abbrev pub spaced_source : List ℤ → ℕ → Option ℕ
+spaced_source bits j = if int_eq (slice_index_or bits j (pos 0)) (pos 1) then Some (ones (take j bits)) else None

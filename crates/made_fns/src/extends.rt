@@ -1,10 +1,11 @@
 //! Arguments of one element that extend to an axis, and shapes with another length of an axis.
-ghost use Rattle.std.specs.Prelude.{◌≡◌, ◌^◌, ◌<◌, ◌≤◌, pos, length, slice_set, replicate, IfOk, IfErr};
+ghost use Rattle.std.specs.Prelude.{◌≡◌, ◌⊎◌, ℕ, ◌^◌, ◌<◌, ◌≤◌, pos, length, slice_set, replicate, IfOk, IfErr};
 ghost use Rattle.std.specs.Ordering.{int_eq};
 ghost use Rattle.apl_base.specs.Array.{IsShape};
 ghost use Rattle.apl_base.specs.declared.faults.ErrorKind.TheVariants as error;
 ghost use Rattle.array_store.specs.Stores.{StoreView, IsStore};
 ghost use Rattle.array_store.specs.Counting.{OnlyFetched};
+ghost use Rattle.drag_along.specs.Nodes.{leaf_shape};
 ghost use Rattle.drag_along.specs.Lawful.{IsLawfulLeaf};
 ghost use Rattle.apl_model.specs.Made.{are_bits as are_bits_of, bits_along as bits_of_axis, extended_to, ones};
 ghost use Rattle.apl_model.specs.Whole.{first};
@@ -43,6 +44,8 @@ pub fn is_one(bit: &Cell) -> bool
 pub fn extended_shape(leaf: &Leaf, n: u64) -> Shape
     requires { n ≤ 2 ^ 40 }
     ensures shape { (store : StoreView) → result ≡ (extended_to n (array_of store leaf.now)).shape }
+    ensures axis { (k : ℕ) → (k < length (leaf_shape leaf.now)) ⊎ ((length (leaf_shape leaf.now) ≡ 0) × (k ≡ 0))
+        → k < length result }
     ensures lawful { IsShape result }
 {
     if is_extendable(leaf) {

@@ -10,6 +10,7 @@ mod keeps;
 mod leaves;
 mod reshapes;
 mod scans;
+mod spaces;
 mod spreads;
 mod turns;
 mod vectors;
@@ -17,6 +18,7 @@ mod vectors;
 pub use joins::catenate;
 pub use keeps::compress;
 pub use reshapes::reshape;
+pub use spaces::expand;
 pub use turns::rotate;
 pub use vectors::{iota, ravel, shape_of};
 
