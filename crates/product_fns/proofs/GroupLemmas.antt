@@ -196,6 +196,14 @@ rest-whole zero ns = let e : length ns - 0 ≡ length ns = omega arith in ap (λ
 rest-whole (suc k) [] = take-none (0 - suc k)
 rest-whole (suc k) (n ∷ ns) = let e : suc (length ns) - suc k ≡ length ns - k = omega arith in ap (λ (m : ℕ). take m (drop k ns)) e ∙ rest-whole k ns
 
+-- the front of what stands in the vector
+pub front : (xs ys : List ℤ) (n : ℕ) → n ≡ length xs → take n (xs ++ ys) ≡ xs
+front xs ys n is = ap (λ (m : ℕ). take m (xs ++ ys)) is ∙ all xs
+  where
+    all : (zs : List ℤ) → take (length zs) (zs ++ ys) ≡ zs
+    all [] = refl
+    all (z ∷ zs) = ap (λ (ws : List ℤ). z ∷ ws) (all zs)
+
 pub some_if : (n : ℕ) → false ≡ (n == 0) → 0 < n
 some_if zero e = absurd cc
 some_if (suc n) e = omega arith

@@ -6,3 +6,6 @@ pub mod CountLemmas
 pub mod RowLemmas
 pub mod GroupLemmas
 pub mod AnswerLemmas
+mod LineLemmas
+mod InnerLemmas
+mod InnerAnswers

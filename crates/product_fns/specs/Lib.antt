@@ -1,3 +1,4 @@
 pub mod Outer
 pub mod Folding
 pub mod Reduction
+pub mod Inner

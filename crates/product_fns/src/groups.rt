@@ -93,7 +93,7 @@ fn fill_identity(f: Dya, results: &mut [Cell]) -> bool
 }
 
 // The number of elements behind an axis, where each axis but that one has some.
-fn size_behind(shape: &Shape, axis: usize) -> u64
+pub(crate) fn size_behind(shape: &Shape, axis: usize) -> u64
     requires axis { axis < length shape.now }
     requires some { 0 < size_of (remove shape.now axis) }
     requires few { size_of (remove shape.now axis) ≤ 2 ^ 40 }

@@ -4,12 +4,15 @@
 mod faults;
 mod folds;
 mod groups;
+mod inners;
+mod lines;
 mod outers;
 mod reductions;
 mod rows;
 mod shapes;
 
 pub use faults::OuterFault;
+pub use inners::inner;
 pub use outers::outer;
 pub use reductions::reduce;
 

@@ -73,6 +73,30 @@ fn reductions_of_few_numbers(rt: HostRuntime) -> Result<(), Fail> {
     Ok(())
 }
 
+// The sum of the products of the first `n` and the first `m` of them, where there is one.
+fn product_of_numbers(alloc: Global, n: u64, m: u64) -> Option<Cell>
+    requires left { n ≤ 3 }
+    requires right { m ≤ 3 }
+{
+    let mut store = Store::new(alloc, 10);
+    let a = numbers(alloc, n);
+    let b = numbers(alloc, m);
+    match inner(Dya::Add, Dya::Mul, &a, &b, &mut store) {
+        Ok(leaf) => Some(first_cell(&leaf, &mut store)),
+        Err(_) => None,
+    }
+}
+
+#[test]
+fn inner_products_of_few_numbers(rt: HostRuntime) -> Result<(), Fail> {
+    let whole = product_of_numbers(rt.alloc(), 3, 3) == Some(93);
+    let extended = product_of_numbers(rt.alloc(), 1, 3) == Some(30);
+    let empty = product_of_numbers(rt.alloc(), 0, 0) == Some(0);
+    let apart = product_of_numbers(rt.alloc(), 2, 3) == None;
+    assert!(rt; whole && extended && empty && apart);
+    Ok(())
+}
+
 #[test]
 fn an_outer_product_is_pending(rt: HostRuntime) -> Result<(), Fail> {
     let mut store = Store::new(rt.alloc(), 0);

@@ -1,18 +1,11 @@
-use Rattle.std.proofs.Common.{◌≡◌, ℕ, ℤ, List, [], ◌∷◌, ◌++◌, length, take, drop, refl, ap, ◌∙◌, arith}
+use Rattle.std.proofs.Common.{◌≡◌, ℤ, List, length, drop, ap, ◌∙◌, arith}
 use Rattle.apl_base.specs.declared.cells.Kind.{Kind}
 use Rattle.apl_base.specs.Array.{size_of}
 use Rattle.leaf_names.specs.Variables.{array_of}
 use Rattle.product_fns.specs.Folding.{reduced_kind, rows_along, AreAllResults, HasUndefined}
 use Rattle.product_fns.proofs.AnswerLemmas.{along_answered, along_undefined}
+use Rattle.product_fns.proofs.GroupLemmas.{front}
 use Rattle.product_fns.proofs.reductions.reduce_into.Goals as goal
-
--- the front of what stands in the vector
-front : (xs ys : List ℤ) (n : ℕ) → n ≡ length xs → take n (xs ++ ys) ≡ xs
-front xs ys n is = ap (λ (m : ℕ). take m (xs ++ ys)) is ∙ all xs
-  where
-    all : (zs : List ℤ) → take (length zs) (zs ++ ys) ≡ zs
-    all [] = refl
-    all (z ∷ zs) = ap (λ (ws : List ℤ). z ∷ ws) (all zs)
 
 pub returns-in-Ok-make_leaf-clause-answer : goal.returns-in-Ok-make_leaf-clause-answer
 returns-in-Ok-make_leaf-clause-answer c =
