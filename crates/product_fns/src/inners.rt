@@ -1,7 +1,6 @@
 //! Inner products.
-ghost use Rattle.std.specs.Prelude.{◌≡◌, ℕ, ◌+◌, ◌-◌, ◌*◌, ◌/◌, ◌%◌, ◌^◌, ◌<◌, ◌≤◌, ◌↔◌, ◌⊎◌, Bool, true, false, [], length, drop, pos, All, IsOk, IsTrue, IfOk, OnOk, IfSome, IfNone, MatchBool, vec_capacity};
+ghost use Rattle.std.specs.Prelude.{◌≡◌, ℕ, ◌+◌, ◌-◌, ◌*◌, ◌/◌, ◌%◌, ◌^◌, ◌<◌, ◌≤◌, ◌↔◌, true, false, [], length, IsOk, IsTrue, IfOk, OnOk, IfSome, IfNone, MatchBool, vec_capacity};
 ghost use Rattle.apl_base.specs.Array.{IsShape, size_of};
-ghost use Rattle.apl_base.specs.Number.{IsCell};
 ghost use Rattle.array_store.specs.Stores.{IsStore, HasRoom, counted};
 ghost use Rattle.array_store.specs.Counting.{OnlyFetched, OnlyComputed, Computed};
 ghost use Rattle.drag_along.specs.Nodes.{leaf_shape};
@@ -258,7 +257,7 @@ fn right_lines(b: &Leaf, n: u64, q: u64, store: &mut Store) -> Result<Lined, NoM
     let Ok(cells) = read_cells(b, store) else {
         return Err(NoMemory);
     };
-    let Ok(mut lines) = transposed_room(alloc, cells.len()) else {
+    let Ok(mut lines) = zeros(alloc, cells.len()) else {
         return Err(NoMemory);
     };
     transpose(
@@ -270,8 +269,8 @@ fn right_lines(b: &Leaf, n: u64, q: u64, store: &mut Store) -> Result<Lined, NoM
     Ok(Lined { kind, cells: lines })
 }
 
-// As many cells, to be filled.
-fn transposed_room(alloc: Global, many: usize) -> Result<Vec<Cell>, NoMemory>
+// As many zeros.
+fn zeros(alloc: Global, many: usize) -> Result<Vec<Cell>, NoMemory>
     ensures { IfOk result (λ cells. length cells.items ≡ many) }
 {
     let cells = vec![in alloc; 0; many]?;

@@ -23,9 +23,9 @@ returns-clause-lines c =
     let shape = ap (λ (d : DescView). d.shape) (c.behind-b.view_is ∙ c.desc-2.ensures) in
     let stays : is_extendable (array_of c.args.store.now c.args.b.now) ≡ false = ap (λ (ns : List ℕ). is_extendable (shaped ns)) (sym shape) ∙ sym c.extends.ensures ∙ c.if-extends.false in
     let new : List ℤ = c.transpose.new.lines in
-    let whole : c.in-Ok-transposed_room.lines.len ≡ length new = omega (arith, c.as_mut_slice.ensures.len, c.transpose.auto.lines) in
+    let whole : c.in-Ok-zeros.lines.len ≡ length new = omega (arith, c.as_mut_slice.ensures.len, c.transpose.auto.lines) in
     let long : length new ≡ length c.as_slice.result.now =
-    omega (arith, c.transpose.auto.lines, c.as_mut_slice.ensures.len, ap length c.as_mut_slice.ensures.value, c.in-Ok-transposed_room.ensures, c.len.ensures, c.as_slice.ensures.len) in
-    subst (λ (zs : List ℤ). AreLines (right_at (array_of c.args.store.now c.args.b.now)) (right_axes (array_of c.args.store.now c.args.b.now)) c.args.n c.kind-kind.result zs) (sym (front new _ c.in-Ok-transposed_room.lines.len whole))
+    omega (arith, c.transpose.auto.lines, c.as_mut_slice.ensures.len, ap length c.as_mut_slice.ensures.value, c.in-Ok-zeros.ensures, c.len.ensures, c.as_slice.ensures.len) in
+    subst (λ (zs : List ℤ). AreLines (right_at (array_of c.args.store.now c.args.b.now)) (right_axes (array_of c.args.store.now c.args.b.now)) c.args.n c.kind-kind.result zs) (sym (front new _ c.in-Ok-zeros.lines.len whole))
     (right_stored (array_of c.args.store.now c.args.b.now) c.args.n c.args.q c.kind-kind.result c.as_slice.result.now new stays (c.requires.length stays) c.requires.columns c.kind-kind.ensures (c.as_slice.ensures.value ∙ c.in-Ok.ensures.cells)
     (tabulated-count (leaf_kind c.args.b.now) (leaf_shape c.args.b.now) (leaf_cell c.args.store.now c.args.b.now)) c.in-Ok.ensures.lawful long c.transpose.ensures.each)
