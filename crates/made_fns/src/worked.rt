@@ -4,7 +4,7 @@ ghost use Rattle.array_store.specs.Stores.{StoreView};
 ghost use Rattle.drag_along.specs.Lawful.{IsLawfulLeaf};
 ghost use Rattle.drag_along.specs.Nodes.{leaf_shape};
 
-use crate::{catenate, iota, ravel, reshape, rotate, shape_of};
+use crate::{catenate, compress, expand, iota, ravel, reshape, rotate, shape_of};
 use apl_base::{Cell, ErrorKind, Kind, Shape};
 use apl_model::Axis;
 use array_desc::Desc;
@@ -54,6 +54,22 @@ fn turns_lines(alloc: Global) -> Result<bool, Fail> {
     let table = counting(alloc, &[2, 3])?;
     let made = rotate(&by, &table, Axis::Last, &mut store)?;
     Ok(is_made(&made, &[2, 3], &[0, 1, 2, 4, 5, 3], &mut store))
+}
+
+fn keeps_a_column(alloc: Global) -> Result<bool, Fail> {
+    let mut store = Store::new(alloc, 3);
+    let bits = counting(alloc, &[2])?;
+    let table = counting(alloc, &[3, 2])?;
+    let made = compress(&bits, &table, Axis::Last, &mut store)?;
+    Ok(is_made(&made, &[3, 1], &[1, 3, 5], &mut store))
+}
+
+fn spaces_a_row(alloc: Global) -> Result<bool, Fail> {
+    let mut store = Store::new(alloc, 6);
+    let bits = counting(alloc, &[2])?;
+    let row = counting(alloc, &[1, 3])?;
+    let made = expand(&bits, &row, Axis::First, &mut store)?;
+    Ok(is_made(&made, &[2, 3], &[0, 0, 0, 0, 1, 2], &mut store))
 }
 
 fn repeats_elements(alloc: Global) -> Result<bool, Fail> {
@@ -157,6 +173,24 @@ fn refuses_turns(alloc: Global) -> Result<bool, Fail> {
     Ok(is_error(axis, ErrorKind::Rank) && is_error(length, ErrorKind::Length))
 }
 
+fn refuses_to_keep(alloc: Global) -> Result<bool, Fail> {
+    let mut store = Store::new(alloc, 0);
+    let numbers = counting(alloc, &[3])?;
+    let table = counting(alloc, &[2, 2])?;
+    let length = compress(&numbers, &table, Axis::Last, &mut store);
+    let domain = compress(&numbers, &numbers, Axis::Last, &mut store);
+    Ok(is_error(length, ErrorKind::Length) && is_error(domain, ErrorKind::Domain))
+}
+
+fn refuses_to_space(alloc: Global) -> Result<bool, Fail> {
+    let mut store = Store::new(alloc, 0);
+    let bits = counting(alloc, &[2])?;
+    let numbers = counting(alloc, &[3])?;
+    let length = expand(&bits, &numbers, Axis::Last, &mut store);
+    let domain = expand(&numbers, &bits, Axis::Last, &mut store);
+    Ok(is_error(length, ErrorKind::Length) && is_error(domain, ErrorKind::Domain))
+}
+
 fn refuses_a_table(alloc: Global) -> Result<bool, Fail> {
     let mut store = Store::new(alloc, 0);
     let vector = counting(alloc, &[2])?;
@@ -181,6 +215,8 @@ fn refuses_for_room(alloc: Global) -> Result<bool, Fail> {
 #[test]
 fn worked_calls(rt: HostRuntime) -> Result<(), Fail> {
     assert!(rt; turns_lines(rt.alloc())?);
+    assert!(rt; keeps_a_column(rt.alloc())?);
+    assert!(rt; spaces_a_row(rt.alloc())?);
     assert!(rt; repeats_elements(rt.alloc())?);
     assert!(rt; joins_vectors(rt.alloc())?);
     assert!(rt; lists_elements(rt.alloc())?);
@@ -195,6 +231,8 @@ fn refused_calls(rt: HostRuntime) -> Result<(), Fail> {
     assert!(rt; refuses_shapes(rt.alloc())?);
     assert!(rt; refuses_too_many_axes(rt.alloc())?);
     assert!(rt; refuses_turns(rt.alloc())?);
+    assert!(rt; refuses_to_keep(rt.alloc())?);
+    assert!(rt; refuses_to_space(rt.alloc())?);
     assert!(rt; refuses_a_table(rt.alloc())?);
     assert!(rt; refuses_numbers(rt.alloc()));
     Ok(())
