@@ -16,7 +16,7 @@ use Rattle.machine_state.specs.declared.machines.Machine.{Machine}
 use Rattle.machine_state.specs.Steps.{Keeps}
 
 -- leaves in hand, counted with none
-with_none : (store : StoreView) (names : Environment Leaf) (stack : List SegmentView) (hand : LeafCounts) → IsLawfulDesk store names stack hand → IsLawfulDesk store names stack (both none hand)
+pub with_none : (store : StoreView) (names : Environment Leaf) (stack : List SegmentView) (hand : LeafCounts) → IsLawfulDesk store names stack hand → IsLawfulDesk store names stack (both none hand)
 with_none store names stack hand d = record { lawful = d.lawful; filling = d.filling; entries = d.entries; held = λ key. omega (arith, d.held key) }
 
 without_none : (store : StoreView) (names : Environment Leaf) (stack : List SegmentView) (hand : LeafCounts) → IsLawfulDesk store names stack (both none hand) → IsLawfulDesk store names stack hand

@@ -1,2 +1,3 @@
 pub mod KeepsLemmas
 pub mod NameLemmas
+pub mod GivesLemmas

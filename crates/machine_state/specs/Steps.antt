@@ -1,14 +1,18 @@
 -- What a step of the machine leaves: it goes on as an instruction does in evaluation, and everything else is as it was.
-use Rattle.std.specs.Prelude.{◌≡◌, ◌⊎◌, ℕ, ◌^◌, ◌≤◌, List, ◌++◌, length, map}
+use Rattle.std.specs.Prelude.{◌≡◌, ◌⊎◌, ℕ, ◌^◌, ◌≤◌, List, [], ◌∷◌, ◌++◌, length, map}
 use Rattle.apl_base.specs.declared.faults.ErrorKind.{ErrorKind}
 use Rattle.apl_base.specs.declared.faults.ErrorKind.TheVariants as error
 use Rattle.apl_base.specs.declared.faults.Place.{Place}
 use Rattle.apl_base.specs.Array.{Array}
-use Rattle.array_store.specs.Follows.{LeafCounts}
+use Rattle.array_store.specs.Follows.{LeafCounts, both}
 use Rattle.apl_compile.specs.declared.codes.Instruction.{Instruction}
 use Rattle.apl_model.specs.Evaluation.{State, Calls}
 use Rattle.apl_model.specs.Outcome.{fails, Flow}
+use Rattle.drag_along.specs.declared.leaves.Leaf.{Leaf}
+use Rattle.drag_along.specs.Nodes.{named_by_leaf}
 use Rattle.drag_along.specs.Meaning.{Meaning, Means}
+use Rattle.apl_model.specs.Environment.{set_name}
+use Rattle.leaf_names.specs.Variables.{array_of}
 use Rattle.value_stack.specs.Stacks.{entries}
 use Rattle.standing.specs.Stand.{Stand, going, ended, stand_on}
 use Rattle.standing.specs.Laws.{Takes, Ends}
@@ -85,3 +89,37 @@ IsUnset m place (halt.Error kind at) =
     ⊎ ((kind ≡ error.Value) × (at ≡ place) × ((arrays : List Array) × (pending m ≡ map (λ a. Means a) arrays)))
 IsUnset m place (halt.WsFull live asked) = IsNotComputed m.store.limit (pending m) (halt.WsFull live asked)
 IsUnset m place halt.NoMemory = Unit {0}
+
+-- ---- assignments
+
+-- a leaf that was in hand was given to the name: the entries mean what they meant
+pub record GivesLeaf (old new : Machine) (name : List ℕ) (leaf : Leaf) : Type 0 where
+  pub lawful : (hand : LeafCounts) → IsLawfulMachine old (both (named_by_leaf leaf) hand) → IsLawfulMachine new hand
+  pub variables : (hand : LeafCounts) → IsLawfulMachine old (both (named_by_leaf leaf) hand)
+      → variables new ≡ set_name (variables old) name (array_of old.store leaf)
+  pub pending : (hand : LeafCounts) → IsLawfulMachine old (both (named_by_leaf leaf) hand) → pending new ≡ pending old
+  pub limit : new.store.limit ≡ old.store.limit
+
+-- the array of the newest entry was given to the name, where all entries mean arrays; they mean what they meant
+pub record Assigns (old new : Machine) (name : List ℕ) : Type 0 where
+  pub arrays : List Array
+  pub are : pending old ≡ map (λ a. Means a) arrays
+  pub older : List Meaning
+  pub array : Array
+  pub newest : pending old ≡ older ++ Means array ∷ []
+  pub lawful : (hand : LeafCounts) → IsLawfulMachine old hand → IsLawfulMachine new hand
+  pub variables : (hand : LeafCounts) → IsLawfulMachine old hand → variables new ≡ set_name (variables old) name array
+  pub pending : (hand : LeafCounts) → IsLawfulMachine old hand → pending new ≡ pending old
+  pub limit : new.store.limit ≡ old.store.limit
+
+-- what an assignment never changes
+pub record IsSameCount (old new : Machine) : Type 0 where
+  pub turns : new.turns_left ≡ old.turns_left
+  pub begun : new.begun ≡ old.begun
+  pub traced : new.traced ≡ old.traced
+  pub costs : new.costs ≡ old.costs
+  pub origin : new.origin ≡ old.origin
+
+-- a leaf is in hand, few others are, and the machine is lawful with them
+abbrev pub HasLeafInHand : Machine → Leaf → Type 0
+HasLeafInHand m leaf = (hand : LeafCounts) × ((key : ℕ) → hand key ≤ 2 ^ 64) × IsLawfulMachine m (both (named_by_leaf leaf) hand)

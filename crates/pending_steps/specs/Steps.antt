@@ -65,3 +65,10 @@ Reaches (Ok done) P = P
 Reaches (Err (halt.Error kind place)) P = P
 Reaches (Err (halt.WsFull live asked)) P = Unit {0}
 Reaches (Err halt.NoMemory) P = Unit {0}
+
+-- what is so where it is at an error
+abbrev pub OnError : Result (Unit {0}) Halt → Type 0 → Type 0
+OnError (Ok done) P = Unit {0}
+OnError (Err (halt.Error kind place)) P = P
+OnError (Err (halt.WsFull live asked)) P = Unit {0}
+OnError (Err halt.NoMemory) P = Unit {0}
