@@ -1,3 +1,5 @@
+//! What holds leaves for names.
+
 ghost use Rattle.std.specs.Prelude.{◌≡◌, Some, IsSome};
 ghost use Rattle.std.specs.Option.{option_copied};
 ghost use Rattle.drag_along.specs.declared.leaves.Leaf.{Leaf};

@@ -1,3 +1,5 @@
+//! Entries that may fail are computed, the oldest first.
+
 ghost use Rattle.std.specs.Prelude.{◌≡◌, [], None, OnOk, IfErr, map};
 ghost use Rattle.std.specs.List.{filter};
 ghost use Rattle.array_store.specs.Stores.{IsStore};

@@ -1,3 +1,5 @@
+//! Cells, elements, kinds and intervals.
+
 /// An integer of the language, or the code of a character.
 pub type Cell = i128;
 

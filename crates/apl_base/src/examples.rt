@@ -1,3 +1,5 @@
+//! Worked examples of the scalar functions and of intervals.
+
 ghost use Rattle.std.specs.Prelude.{◌≡◌, ◌-◌, ◌^◌, pos, negsuc, neg_ℤ, [], ◌∷◌};
 ghost use Rattle.apl_base.specs.Scalar.{of_number, of_numbers, scalar1, scalar2, identity_of, number};
 ghost use Rattle.apl_base.specs.Interval.{InInterval, IsWithin, hull, exact_interval};

@@ -1,3 +1,5 @@
+//! Errors, refusals, their places, and want of memory.
+
 use std::alloc::{AllocError, AllocFailed};
 
 /// Memory was wanting. No contract says when.
@@ -9,6 +11,7 @@ impl From<AllocError> for NoMemory {
 
     ghost from_gives = { λ _ e. e ≡ record {} };
 
+    /// Any failure to have memory is want of it.
     fn from(_fault: AllocError) -> NoMemory {
         NoMemory
     }
@@ -19,6 +22,7 @@ impl<T: Drop> From<AllocFailed<T>> for NoMemory {
 
     ghost from_gives = { λ _ e. e ≡ record {} };
 
+    /// Any failure to have memory is want of it.
     fn from(_fault: AllocFailed<T>) -> NoMemory {
         NoMemory
     }

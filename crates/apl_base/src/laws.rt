@@ -1,3 +1,5 @@
+//! Laws of indices, places and whole arrays.
+
 ghost use Rattle.std.specs.Prelude.{◌≡◌, ◌≢◌, ◌<◌, ◌≤◌, ◌*◌, ◌^◌, ◌++◌, ℕ, ℤ, List, [], ◌∷◌, length, map, pos, slice_index_or, Option, Some, None};
 ghost use Rattle.std.specs.List.{flat_map};
 ghost use Rattle.apl_base.specs.Array.{Array, IsShape, IsIndex, size_of, place_at, index_at, cell_at};

@@ -1,3 +1,5 @@
+//! Names of variables and functions.
+
 ghost use Rattle.std.specs.Prelude.{◌≡◌, ◌↔◌, IfOk, IsTrue};
 ghost use Rattle.std.specs.Str.{chars, encode_utf8_all};
 

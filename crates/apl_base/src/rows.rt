@@ -1,3 +1,5 @@
+//! The names of the 27 scalar functions.
+
 /// The scalar functions of one argument: `+ - × ÷ ⌈ ⌊ | ~ !`.
 #[derive(Clone, Copy, Debug, PartialEq, Eq)]
 pub enum Mon {

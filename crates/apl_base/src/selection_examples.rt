@@ -1,3 +1,5 @@
+//! Worked examples of the selections.
+
 ghost use Rattle.std.specs.Prelude.{◌≡◌, pos, negsuc, [], ◌∷◌, ◌++◌};
 ghost use Rattle.apl_base.specs.Selection.{take_shape, take_index, drop_shape, drop_index, reverse_index, transpose_shape, transpose_index, whole, one, run, subscript_shape, subscript_index, at_shape, at_index, run_shape, run_index, only_index, outer_left_index, outer_right_index};
 ghost use Rattle.apl_base.specs.Examples.{places_read};

@@ -1,3 +1,5 @@
+//! Shapes: the lengths of an array.
+
 ghost use Rattle.std.specs.Prelude.{◌≡◌, ◌+◌, ◌^◌, ◌<◌, ◌≤◌, ◌↔◌, min, length, slice_index, EachIndex, IsTrue, IsOk, IfOk};
 ghost use Rattle.apl_base.specs.Array.{IsShape, IsIndex, size_of, place_at, index_at};
 

@@ -1,3 +1,5 @@
+//! Shapes at their limits, and names, with ample memory.
+
 use super::*;
 use std::alloc::Global;
 use std::test::Fail;

@@ -4,7 +4,8 @@
 ghost use Rattle.std.specs.Prelude.{◌≡◌, ◌++◌, OnOk, IfOk};
 ghost use Rattle.apl_model.specs.Mirror.{tree_of};
 ghost use Rattle.apl_model.proofs.Bridge.{slot_with, positions_with};
-ghost use Rattle.apl_compile.specs.Code.{at, arguments, mask_of, own_code, expression_code, slot_code, positions_code};
+ghost use Rattle.apl_compile.specs.Code.{at, arguments, mask_of, own_code, expression_code};
+ghost use Rattle.apl_compile.specs.Code.{slot_code, positions_code};
 
 use crate::codes::{Instruction, Op};
 use apl_base::{Dya, Name, NoMemory, Place};
@@ -41,10 +42,10 @@ pub(crate) fn emit(alloc: Global, e: &Expr, code: &mut Items<Instruction>) -> Re
         }
         Expr::Index {
             array,
-            positions,
+            positions: read,
             ..
         } => {
-            emit_positions(alloc, positions.as_slice(), code)?;
+            emit_positions(alloc, read.as_slice(), code)?;
             emit(alloc, array.get(), code)?;
             put_own(alloc, e, code)
         }

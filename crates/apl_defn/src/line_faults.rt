@@ -18,6 +18,7 @@ impl From<NoMemory> for LineFault {
 
     ghost from_gives = { λ _ fault. fault ≡ NoMemory };
 
+    /// Want of memory stays that.
     fn from(_fault: NoMemory) -> LineFault {
         LineFault::NoMemory
     }

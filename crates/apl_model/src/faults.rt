@@ -1,3 +1,5 @@
+//! Why a script is not read.
+
 use apl_base::{NoMemory, Refusal};
 use thiserror::Error;
 
@@ -16,6 +18,7 @@ impl From<NoMemory> for ReadFault {
 
     ghost from_gives = { λ _ fault. fault ≡ NoMemory };
 
+    /// Want of memory stays that.
     fn from(_fault: NoMemory) -> ReadFault {
         ReadFault::NoMemory
     }

@@ -1,3 +1,5 @@
+//! The functions of the language that are no scalar ones, and axes.
+
 use apl_base::{Cell, Dya, Mon};
 
 /// Along which axis a function goes: the last, the first, or that of the number in brackets.

@@ -1,3 +1,5 @@
+//! Outlines: a script without its trees and tokens.
+
 use crate::scripts::{Command, Header};
 use crate::texts::Text;
 use apl_base::Name;

@@ -1,3 +1,5 @@
+//! Scripts: their items, definitions and commands.
+
 use crate::tokens::Line;
 use crate::trees::Statement;
 use apl_base::{Cell, Name};

@@ -1,3 +1,5 @@
+//! Texts, which contracts see as a list of characters.
+
 ghost use Rattle.std.specs.Prelude.{◌≡◌};
 ghost use Rattle.std.specs.Str.{chars};
 ghost use Rattle.std.specs.String.{string_bytes};

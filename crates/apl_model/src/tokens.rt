@@ -1,3 +1,5 @@
+//! Lines, their tokens, and classes of names.
+
 use crate::texts::Text;
 use apl_base::{Cell, Name};
 use sqlite_items::Items;

@@ -1,3 +1,5 @@
+//! The trees of expressions and statements.
+
 use crate::functions::{Axis, DyaFn, MonFn};
 use apl_base::{Cell, Dya, Kind, Name, Place};
 use sqlite_items::{Boxed, Items};

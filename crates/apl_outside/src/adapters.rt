@@ -1,3 +1,5 @@
+//! Readers and writers of std as sources and sinks.
+
 ghost use Rattle.std.specs.Prelude.{◌≡◌, ◌<◌, ◌≤◌, None, length, take, IfOk, OnOk, OnErr};
 ghost use Rattle.std.specs.Io.KnownBytes.{ReadConsumes, WriteAppends};
 ghost use Rattle.apl_outside.specs.Adapters.{reader_of, source_faults, writer_of, sink_faults};
@@ -30,6 +32,7 @@ impl<R: Read> Source for StdSource<R> {
 
     ghost faults = { λ s. source_faults s };
 
+    /// Reads from the reader; a fault of it is counted.
     fn pull(&mut self, buf: &mut [u8]) -> Result<usize, Failed>
         requires { 0 < length buf.old }
         ensures bound { IfOk result (λ n. n ≤ length buf.new) }

@@ -1,3 +1,5 @@
+//! A sink in memory.
+
 ghost use Rattle.std.specs.Prelude.{◌≡◌, ◌-◌, ◌<◌, ◌≤◌, ◌↔◌, ◌⊎◌, ◌++◌, [], Some, length, take, min, IsErr, IfOk, OnErr, Contains};
 ghost use Rattle.apl_outside.specs.Bytes.{Gains};
 ghost use Rattle.apl_outside.specs.Faults.{Rose, one_more};
@@ -70,6 +72,7 @@ impl Sink for MemSink {
 
     ghost faults = { λ s. s.faults };
 
+    /// Takes as many bytes as one call does, where it has room and this call is none of the failing ones.
     fn push(&mut self, piece: &[u8]) -> Result<usize, Failed>
         requires { 0 < length piece.now }
         ensures some { IfOk result (λ n. 0 < n) }

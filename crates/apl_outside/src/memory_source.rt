@@ -1,3 +1,5 @@
+//! A source in memory.
+
 ghost use Rattle.std.specs.Prelude.{◌≡◌, ◌<◌, ◌≤◌, ◌↔◌, [], Some, length, take, drop, min, IsErr, IfOk, OnErr, Contains};
 ghost use Rattle.apl_outside.specs.Bytes.{Loses};
 ghost use Rattle.apl_outside.specs.Faults.{Rose, one_more};
@@ -52,6 +54,7 @@ impl Source for MemSource {
 
     ghost faults = { λ s. s.faults };
 
+    /// Gives as many bytes as one call does, where this call is none of the failing ones.
     fn pull(&mut self, buf: &mut [u8]) -> Result<usize, Failed>
         requires { 0 < length buf.old }
         ensures bound { IfOk result (λ n. n ≤ length buf.new) }

@@ -1,3 +1,5 @@
+//! Sinks: where bytes go.
+
 ghost use Rattle.std.specs.Prelude.{◌≡◌, ℕ, ◌<◌, ◌≤◌, List, Option, length, take, IfOk, OnErr};
 ghost use Rattle.apl_outside.specs.Bytes.{Gains};
 ghost use Rattle.apl_outside.specs.Faults.{Rose};

@@ -1,3 +1,5 @@
+//! Sources: where bytes come from.
+
 ghost use Rattle.std.specs.Prelude.{◌≡◌, ℕ, ◌<◌, ◌≤◌, ◌↔◌, List, [], Option, length, take, IfOk, IfSome, OnErr};
 ghost use Rattle.apl_outside.specs.Bytes.{Loses};
 ghost use Rattle.apl_outside.specs.Faults.{Rose};

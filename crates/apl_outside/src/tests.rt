@@ -1,3 +1,5 @@
+//! Sources and sinks of std, and faults in mid-stream.
+
 use crate::{
     Failed, MemSink, MemSource, ReadEnd, Sink, Source, StdSink, StdSource, push_all, read_all,
 };

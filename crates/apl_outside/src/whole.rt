@@ -1,3 +1,5 @@
+//! All bytes of a source, and all of a piece to a sink.
+
 ghost use Rattle.std.specs.Prelude.{◌≡◌, ◌<◌, ◌≤◌, ◌+◌, [], length, IfOk, IsOk, IfSome, IsErrOf, OnOk, OnErr};
 ghost use Rattle.apl_outside.specs.Bytes.{Loses, Gains, LosesCount, LosesUpTo, GainsPart};
 ghost use Rattle.apl_outside.specs.Faults.{Rose};

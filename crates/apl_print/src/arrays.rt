@@ -80,9 +80,11 @@ fn write_elements<O: Sink>(
     requires rows { 0 < grid.rows }
     requires columns { 0 < grid.columns }
     ensures ok { OnOk result (Gains (O.written out.old) (O.written out.new)
-        (encode_utf8_all (elements_text grid widths.now start (cells_from store.old leaf.now 0 (size_of (leaf_shape leaf.now)))))) }
+        (encode_utf8_all (elements_text grid widths.now start
+        (cells_from store.old leaf.now 0 (size_of (leaf_shape leaf.now)))))) }
     ensures err { OnErr result (GainsPrefix (O.written out.old) (O.written out.new)
-        (encode_utf8_all (elements_text grid widths.now start (cells_from store.old leaf.now 0 (size_of (leaf_shape leaf.now)))))) }
+        (encode_utf8_all (elements_text grid widths.now start
+        (cells_from store.old leaf.now 0 (size_of (leaf_shape leaf.now)))))) }
     ensures counted { OnlyFetched store.old store.new (size_of (leaf_shape leaf.now)) }
     ensures store { IsStore store.new }
     ensures rose { IsErrOf result PrintFault.OutFault → Rose (O.faults out.old) (O.faults out.new) }

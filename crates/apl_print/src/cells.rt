@@ -93,7 +93,8 @@ pub(crate) fn add_field(
 ) -> Result<(), NoMemory>
     requires { IsCell kind cell.now }
     ensures { OnOk result (string_bytes text.new
-        ≡ string_bytes text.old ++ encode_utf8_all (right_justified width (cell_text kind cell.now))) }
+        ≡ string_bytes text.old
+        ++ encode_utf8_all (right_justified width (cell_text kind cell.now))) }
 {
     if width > 0 {
         add_blanks(u64::from(width.saturating_sub(width_of(kind, cell))), text)?;

@@ -1,3 +1,5 @@
+//! Why a text was not written.
+
 use apl_base::NoMemory;
 use std::alloc::AllocError;
 use thiserror::Error;
@@ -17,6 +19,7 @@ impl From<NoMemory> for PrintFault {
 
     ghost from_gives = { λ _ fault. fault ≡ NoMemory };
 
+    /// Want of memory stays that.
     fn from(_fault: NoMemory) -> PrintFault {
         PrintFault::NoMemory
     }
@@ -28,6 +31,7 @@ impl From<AllocError> for PrintFault {
 
     ghost from_gives = { λ _ fault. fault ≡ NoMemory };
 
+    /// Want of memory stays that.
     fn from(_fault: AllocError) -> PrintFault {
         PrintFault::NoMemory
     }

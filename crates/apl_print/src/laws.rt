@@ -20,13 +20,15 @@ pub fn worked_arrays()
         ≡ codes "¯1000000000000000000000000000000000000\n" }
     ensures character { characters_text [] "∆" ≡ codes "∆\n" }
 
-    ensures vector { numbers_text (3 ∷ []) (pos 1 ∷ neg_ℤ (pos 20) ∷ pos 0 ∷ []) ≡ codes "1 ¯20 0\n" }
+    ensures vector { numbers_text (3 ∷ []) (pos 1 ∷ neg_ℤ (pos 20) ∷ pos 0 ∷ [])
+        ≡ codes "1 ¯20 0\n" }
     ensures characters { characters_text (4 ∷ []) "IT'S" ≡ codes "IT'S\n" }
     ensures no_numbers { numbers_text (0 ∷ []) [] ≡ codes "\n" }
     ensures no_characters { characters_text (0 ∷ []) "" ≡ codes "\n" }
 
     // Each column is as wide as its widest number, and numbers stand at its right end.
-    ensures table { numbers_text (2 ∷ 3 ∷ []) (pos 1 ∷ neg_ℤ (pos 2) ∷ pos 300 ∷ pos 40 ∷ pos 5 ∷ pos 6 ∷ [])
+    ensures table { numbers_text (2 ∷ 3 ∷ [])
+        (pos 1 ∷ neg_ℤ (pos 2) ∷ pos 300 ∷ pos 40 ∷ pos 5 ∷ pos 6 ∷ [])
         ≡ codes " 1 ¯2 300\n40  5   6\n" }
     ensures letters { characters_text (2 ∷ 3 ∷ []) "ABC DE" ≡ codes "ABC\n DE\n" }
     ensures one_column { numbers_text (2 ∷ 1 ∷ []) (pos 5 ∷ pos 10 ∷ []) ≡ codes " 5\n10\n" }
@@ -63,13 +65,16 @@ pub fn worked_lines()
         ≡ codes "REFUSED 3 14 DOUBLE NAME\n" }
     ensures too_long { refusal_line (record { line = 0; column = 0; cause = cause.TooLong })
         ≡ codes "REFUSED 0 0 TOO LONG\n" }
-    ensures cost { cost_line (record { line = 1; begun = 20; ops = 300 }) ≡ codes "COST 1 20 300\n" }
+    ensures cost { cost_line (record { line = 1; begun = 20; ops = 300 })
+        ≡ codes "COST 1 20 300\n" }
     ensures progression { desc_line (codes "B")
         (leaf.Gen (record { base = pos 3; strides = neg_ℤ (pos 1) ∷ []; shape = 3 ∷ [] }) kind.Num)
         ≡ codes "DESC B G 3 ¯1 3\n" }
     ensures stored { desc_line (codes "∆A")
-        (leaf.Stored 7 (record { base = pos 0; strides = pos 3 ∷ pos 1 ∷ []; shape = 2 ∷ 3 ∷ [] }) kind.Num)
+        (leaf.Stored 7
+        (record { base = pos 0; strides = pos 3 ∷ pos 1 ∷ []; shape = 2 ∷ 3 ∷ [] }) kind.Num)
         ≡ codes "DESC ∆A S 7 0 3,1 2,3\n" }
     ensures no_axis { desc_line (codes "A")
-        (leaf.Gen (record { base = pos 5; strides = []; shape = [] }) kind.Num) ≡ codes "DESC A G 5 - -\n" }
+        (leaf.Gen (record { base = pos 5; strides = []; shape = [] }) kind.Num)
+        ≡ codes "DESC A G 5 - -\n" }
 {}

@@ -24,8 +24,8 @@ pub fn write_refusal<O: Sink>(
     refusal: &Refusal,
     out: &mut O,
 ) -> Result<(), PrintFault>
-    ensures ok { OnOk result
-        (Gains (O.written out.old) (O.written out.new) (encode_utf8_all (refusal_line refusal.now))) }
+    ensures ok { OnOk result (Gains (O.written out.old) (O.written out.new)
+        (encode_utf8_all (refusal_line refusal.now))) }
     ensures err { OnErr result (GainsPrefix (O.written out.old) (O.written out.new)
         (encode_utf8_all (refusal_line refusal.now))) }
     ensures rose { IsErrOf result PrintFault.OutFault → Rose (O.faults out.old) (O.faults out.new) }
@@ -105,8 +105,8 @@ pub fn write_desc<T: Sink>(
     leaf: &Leaf,
     tr: &mut T,
 ) -> Result<(), PrintFault>
-    ensures ok { OnOk result
-        (Gains (T.written tr.old) (T.written tr.new) (encode_utf8_all (desc_line name.now leaf.now))) }
+    ensures ok { OnOk result (Gains (T.written tr.old) (T.written tr.new)
+        (encode_utf8_all (desc_line name.now leaf.now))) }
     ensures err { OnErr result (GainsPrefix (T.written tr.old) (T.written tr.new)
         (encode_utf8_all (desc_line name.now leaf.now))) }
     ensures rose { IsErrOf result PrintFault.OutFault → Rose (T.faults tr.old) (T.faults tr.new) }

@@ -35,7 +35,8 @@ pub fn write_report<O: Sink>(
     ensures ok { (s : Script) → program.now ≡ program_of s → OnOk result
         (Gains (O.written out.old) (O.written out.new) (encode_utf8_all (report s kind place))) }
     ensures err { (s : Script) → program.now ≡ program_of s → OnErr result
-        (GainsPrefix (O.written out.old) (O.written out.new) (encode_utf8_all (report s kind place))) }
+        (GainsPrefix (O.written out.old) (O.written out.new)
+        (encode_utf8_all (report s kind place))) }
     ensures rose { IsErrOf result PrintFault.OutFault → Rose (O.faults out.old) (O.faults out.new) }
     ensures never_falls { O.faults out.old ≤ O.faults out.new }
 {

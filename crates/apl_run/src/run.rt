@@ -1,3 +1,5 @@
+//! The top call.
+
 ghost use Rattle.std.specs.Prelude.{◌≡◌, ◌<◌, ◌≤◌, ◌↔◌, ◌⊎◌, [], Some, pos, length, IfSome};
 ghost use Rattle.apl_outside.specs.Bytes.{Gains};
 ghost use Rattle.apl_outside.specs.Faults.{Rose};

@@ -1,3 +1,5 @@
+//! Scripts over objects in memory, with faults in mid-stream.
+
 ghost use Rattle.std.specs.Prelude.{◌<◌};
 
 use crate::aplm;

@@ -28,6 +28,7 @@ fn without_words(rt: &impl Eprint, error: &io::Error) -> Status {
     status
 }
 
+/// Runs the script over standard input, output and error; the status is the exit status.
 fn main(rt: HostRuntime) -> ExitCode {
     let words = match words_of(&rt) {
         Ok(words) => words,

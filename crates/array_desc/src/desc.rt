@@ -32,7 +32,8 @@ impl Model for Desc {
 
     ghost view = { λ d. record { base = d.base; strides = d.strides.items; shape = d.shape } };
 
-    ghost invariant = { λ d. IsDesc (record { base = d.base; strides = d.strides.items; shape = d.shape })
+    ghost invariant = { λ d.
+        IsDesc (record { base = d.base; strides = d.strides.items; shape = d.shape })
         × (d.strides.capacity ≡ 8) };
 }
 

@@ -1,3 +1,5 @@
+//! Axes that fall together: transposition.
+
 ghost use Rattle.std.specs.Prelude.{◌≡◌, ◌≤◌, length, map};
 ghost use Rattle.std.specs.Int.{int_wrap};
 ghost use mir.Syntax.{w128};

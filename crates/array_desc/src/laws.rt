@@ -1,3 +1,5 @@
+//! Worked numbers of descriptors, and that they determine them.
+
 ghost use Rattle.std.specs.Prelude.{◌≡◌, ℕ, pos, negsuc, List, [], ◌∷◌};
 ghost use Rattle.apl_base.specs.Array.{IsIndex};
 ghost use Rattle.array_desc.specs.Desc.{number as number_of};
@@ -6,10 +8,15 @@ use crate::desc::Desc;
 
 /// Worked numbers: of a table, of a vector backwards, of a diagonal, of a scalar.
 pub fn worked_numbers()
-    ensures table { number_of (record { base = pos 5; strides = pos 10 ∷ pos 1 ∷ []; shape = 2 ∷ 3 ∷ [] }) (1 ∷ 2 ∷ [])
+    ensures table { number_of
+        (record { base = pos 5; strides = pos 10 ∷ pos 1 ∷ []; shape = 2 ∷ 3 ∷ [] }) (1 ∷ 2 ∷ [])
         ≡ pos 17 }
-    ensures backwards { number_of (record { base = pos 2; strides = negsuc 0 ∷ []; shape = 3 ∷ [] }) (2 ∷ []) ≡ pos 0 }
-    ensures diagonal { number_of (record { base = pos 0; strides = pos 4 ∷ []; shape = 2 ∷ [] }) (1 ∷ []) ≡ pos 4 }
+    ensures backwards { number_of
+        (record { base = pos 2; strides = negsuc 0 ∷ []; shape = 3 ∷ [] }) (2 ∷ [])
+        ≡ pos 0 }
+    ensures diagonal { number_of
+        (record { base = pos 0; strides = pos 4 ∷ []; shape = 2 ∷ [] }) (1 ∷ [])
+        ≡ pos 4 }
     ensures scalar { number_of (record { base = negsuc 6; strides = []; shape = [] }) []
         ≡ negsuc 6 }
 {}

@@ -1,3 +1,5 @@
+//! Lists of lengths and strides, kept inline.
+
 ghost use Rattle.std.specs.Prelude.{◌≡◌, ◌+◌, ◌<◌, ◌≤◌, ◌++◌, pos, length, slice_set, remove, replicate};
 
 use apl_base::Cell;

@@ -1,3 +1,5 @@
+//! The parts of a descriptor while it is made.
+
 ghost use Rattle.std.specs.Prelude.{◌≡◌, ℕ, ◌≤◌, ◌+ℤ◌, List, length};
 ghost use Rattle.apl_base.specs.Array.{IsShape, IsIndex};
 ghost use Rattle.array_desc.specs.Desc.{IsDesc, dot, number as number_of};

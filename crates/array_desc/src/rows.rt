@@ -44,7 +44,8 @@ impl<'a> Model for RowWalk<'a> {
     ghost view = { λ w. record { desc = w.desc.now; place = w.place } };
 
     ghost invariant = { λ w. IsDesc w.desc.now × (w.place < size_of w.desc.now.shape
-        → Walks w.desc.now w.run.outer w.run.length w.run.step w.index.items w.done w.place w.start) };
+        → Walks w.desc.now w.run.outer w.run.length w.run.step
+        w.index.items w.done w.place w.start) };
 }
 
 impl<'a> RowWalk<'a> {

@@ -38,7 +38,8 @@ impl Desc {
     /// Turns an axis round.
     pub fn reverse(&mut self, axis: usize)
         requires { axis < length self.old.shape }
-        ensures selects { Selects self.old self.new self.old.shape (reverse_index self.old.shape axis) }
+        ensures selects { Selects self.old self.new
+            self.old.shape (reverse_index self.old.shape axis) }
         ensures lawful { IsDesc self.new }
     {
         let n = self.shape.len(axis);
@@ -61,7 +62,8 @@ impl Desc {
     pub fn at(&mut self, axis: usize, i: u64)
         requires axis { axis < length self.old.shape }
         requires place { i < slice_index self.old.shape axis }
-        ensures selects { Selects self.old self.new (at_shape axis self.old.shape) (at_index axis i) }
+        ensures selects { Selects self.old self.new
+            (at_shape axis self.old.shape) (at_index axis i) }
         ensures lawful { IsDesc self.new }
     {
         *self = self.one_place(axis, i).settled();

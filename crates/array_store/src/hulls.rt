@@ -1,3 +1,5 @@
+//! The interval that cells lie in.
+
 ghost use Rattle.std.specs.Prelude.{◌≡◌};
 ghost use Rattle.apl_base.specs.Interval.{hull, exact_interval};
 

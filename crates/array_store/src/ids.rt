@@ -1,3 +1,5 @@
+//! The keys of owners, counts, and why no vector is given.
+
 ghost use Rattle.std.specs.Prelude.{◌≡◌};
 ghost use Rattle.array_store.specs.declared.ids.BeginFault.TheVariants as begin_fault;
 

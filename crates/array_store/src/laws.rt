@@ -1,3 +1,5 @@
+//! Laws of stores, and worked examples.
+
 ghost use Rattle.std.specs.Prelude.{◌≡◌, ◌-◌, ◌^◌, pos, negsuc, [], ◌∷◌, Some, None};
 ghost use Rattle.apl_base.specs.declared.cells.Interval.TheVariants as interval;
 ghost use Rattle.apl_base.specs.declared.cells.Kind.TheVariants as kind;

@@ -1,3 +1,5 @@
+//! Cells read at a distance from one another.
+
 ghost use Rattle.std.specs.Prelude.{◌≡◌, pos, ◌+ℤ◌, ◌≤ℤ◌, ◌<ℤ◌, unsigned_abs, length, slice_index_or};
 ghost use Rattle.std.specs.Int.{int_wrap};
 ghost use mir.Syntax.{w128};

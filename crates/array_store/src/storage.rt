@@ -1,3 +1,5 @@
+//! The store: arrays of cells under numbered owners.
+
 ghost use Rattle.std.specs.Prelude.{◌≡◌, ◌≢◌, ℕ, ◌+◌, ◌-◌, ◌++◌, ◌<◌, ◌≤◌, ◌↔◌, [], length, All, IfOk, OnOk, OnErr, IsOkUnless, IsErrOf, vec_len, vec_capacity};
 ghost use Rattle.apl_base.specs.Number.{IsCell};
 ghost use Rattle.apl_base.specs.Interval.{InInterval};

@@ -1,3 +1,5 @@
+//! A store of four cells.
+
 ghost use Rattle.std.specs.Prelude.{◌≡◌, [], All, IfOk};
 ghost use Rattle.apl_base.specs.Number.{IsNumber};
 

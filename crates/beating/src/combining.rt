@@ -1,3 +1,5 @@
+//! Sums, differences and products of descriptors.
+
 ghost use Rattle.std.specs.Prelude.{◌↔◌, ◌+ℤ◌, ◌-ℤ◌, ◌*ℤ◌, IsSome, IfSome};
 ghost use Rattle.beating.specs.Folds.{Keeps, exact_value, CanCombine, Combines};
 
@@ -20,6 +22,7 @@ pub fn combined(f: Dya, left: &Desc, right: &Desc) -> Option<Desc>
     }
 }
 
+// The sum at each index: the other one shifted by the constant one.
 fn sum(left: &Desc, right: &Desc) -> Desc
     requires { CanCombine ◌+ℤ◌ left.now right.now }
     ensures { Combines ◌+ℤ◌ left.now right.now result }
@@ -31,6 +34,7 @@ fn sum(left: &Desc, right: &Desc) -> Desc
     }
 }
 
+// The difference at each index: a sum with the negative.
 fn difference(left: &Desc, right: &Desc) -> Desc
     requires { CanCombine ◌-ℤ◌ left.now right.now }
     ensures { Combines ◌-ℤ◌ left.now right.now result }
@@ -38,6 +42,7 @@ fn difference(left: &Desc, right: &Desc) -> Desc
     sum(left, &scaled(right, -1))
 }
 
+// The product at each index: the other one scaled by the constant one.
 fn product(left: &Desc, right: &Desc) -> Desc
     requires { CanCombine ◌*ℤ◌ left.now right.now }
     ensures { Combines ◌*ℤ◌ left.now right.now result }

@@ -1,3 +1,5 @@
+//! Worked progressions.
+
 ghost use Rattle.std.specs.Prelude.{pos, negsuc, [], ◌∷◌};
 ghost use Rattle.beating.specs.declared.runs.Run.{Run};
 ghost use Rattle.beating.specs.Runs.{IsRunOf};

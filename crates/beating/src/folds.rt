@@ -1,3 +1,5 @@
+//! Functions of progressions that are progressions.
+
 ghost use Rattle.std.specs.Prelude.{◌≡◌, ◌↔◌, ◌⊎◌, IsTrue, None, Some, IsSome, IfSome, MatchOption};
 ghost use Rattle.apl_base.specs.declared.faults.Place.{Place};
 ghost use Rattle.apl_base.specs.declared.cells.Kind.TheVariants.{Num};
@@ -56,6 +58,7 @@ pub fn fold2(f: Dya, left: &Segment, right: &Segment) -> Option<Leaf>
     Some(numbers(combined(f, a, b)?))
 }
 
+// Whether one of two descriptors gives the same number everywhere.
 fn one_is_constant(a: &Desc, b: &Desc) -> bool
     ensures { IsTrue result ↔ (AllRest a.now.strides ⊎ AllRest b.now.strides) }
 {
@@ -92,6 +95,7 @@ fn only_numbers(s: &Segment) -> Option<&Desc>
     }
 }
 
+// The leaf of numbers that a descriptor gives, not stored.
 fn numbers(desc: Desc) -> Leaf
     ensures { result ≡ Gen desc Num }
 {

@@ -1,3 +1,5 @@
+//! Positions of a subscript that are one place or a run of places.
+
 ghost use Rattle.std.specs.Prelude.{◌≡◌, ℕ, pos, ◌-ℤ◌, ◌-◌, ◌^◌, ◌<◌, ◌≤◌, IfOk, OnOk, IfErr, IfSome, IfNone};
 ghost use Rattle.apl_base.specs.Number.{IsNumber};
 ghost use Rattle.beating.specs.Runs.{run_value};

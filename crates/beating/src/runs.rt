@@ -1,3 +1,5 @@
+//! Progressions, and which vectors are one.
+
 ghost use Rattle.std.specs.Prelude.{◌≡◌, ◌*◌, ◌^◌, ◌<◌, false, length, IfSome};
 ghost use Rattle.apl_base.specs.declared.cells.Kind.TheVariants.{Num};
 ghost use Rattle.apl_base.specs.Array.{size_of};

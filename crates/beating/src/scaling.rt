@@ -1,3 +1,5 @@
+//! Descriptors shifted and scaled.
+
 ghost use Rattle.std.specs.Prelude.{◌≡◌, ℕ, ◌↔◌, pos, ◌+ℤ◌, ◌*ℤ◌, IsTrue, List, map};
 ghost use Rattle.std.specs.Int.{int_wrap};
 ghost use mir.Syntax.{w128};

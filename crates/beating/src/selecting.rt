@@ -1,3 +1,5 @@
+//! Selections from pending expressions.
+
 ghost use Rattle.std.specs.Prelude.{◌≡◌, ℕ, false, List, [], ◌∷◌, Some};
 ghost use Rattle.array_store.specs.Stores.{StoreView};
 ghost use Rattle.array_desc.specs.Desc.{IsDesc};

@@ -1,3 +1,5 @@
+//! The selections, with their numbers.
+
 use apl_base::Shape;
 use smallvec::SmallVec;
 

@@ -1,3 +1,5 @@
+//! Subscripts of one descriptor.
+
 ghost use Rattle.std.specs.Prelude.{◌≡◌, ◌<◌, length, map, slice_index, slice_set};
 ghost use Rattle.apl_base.specs.Array.{IsShape};
 ghost use Rattle.apl_base.specs.Selection.{subscript_shape, subscript_index};

@@ -1,3 +1,5 @@
+//! Each call of descriptors against a listing made elsewhere.
+
 ghost use Rattle.std.specs.Prelude.{◌≡◌, ◌<◌, ◌++◌, length, slice_index};
 ghost use Rattle.apl_base.specs.Array.{IsShape, size_of};
 ghost use Rattle.apl_base.specs.Selection.{CountsFit, AreAxes, axes_rank, run_shape};

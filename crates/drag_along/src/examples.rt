@@ -1,3 +1,5 @@
+//! Worked meanings of pending expressions.
+
 ghost use Rattle.std.specs.Prelude.{◌≡◌, pos, [], ◌∷◌};
 ghost use Rattle.apl_base.specs.declared.cells.Kind.TheVariants.{Num};
 ghost use Rattle.drag_along.specs.Examples.{two_vectors, halves_and_parts, column};

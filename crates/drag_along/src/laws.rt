@@ -1,3 +1,5 @@
+//! Laws of leaves, segments and what they mean.
+
 ghost use Rattle.drag_along.specs.Laws.{EntryIsMeaning, OneMeaning, FollowsKeeps, LeafKept, LeafCellsLawful, SegmentKept, OneLeafSegment, OneLeafMeans, OneLeafLawful, NamedAtMost, WholeViewStands, WrittenViewStands};
 
 /// What is computed by whole arrays is what a segment means by its values and faults at each index, and a segment

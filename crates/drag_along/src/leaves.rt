@@ -1,3 +1,5 @@
+//! Leaves: the operands of pending expressions.
+
 ghost use Rattle.std.specs.Prelude.{◌≡◌, ℕ, ◌<◌, ◌≤◌, ◌↔◌, IsTrue, List};
 ghost use Rattle.apl_base.specs.Array.{IsIndex};
 ghost use Rattle.apl_base.specs.Interval.{InInterval, IsInterval};

@@ -1,3 +1,5 @@
+//! The nodes of a pending expression.
+
 use crate::leaves::Leaf;
 use apl_base::{Dya, Mon, Place};
 

@@ -1,3 +1,5 @@
+//! Segments: pending expressions.
+
 ghost use Rattle.std.specs.Prelude.{◌≡◌, ℕ, ◌+◌, ◌<◌, ◌≤◌, ◌↔◌, IsTrue, IfOk};
 ghost use Rattle.apl_base.specs.Interval.{IsInterval};
 ghost use Rattle.apl_base.specs.Scalar.{scalar1, scalar2};

@@ -1,3 +1,5 @@
+//! Columns of elements that are pending for a block of places.
+
 ghost use Rattle.std.specs.Prelude.{◌≡◌, ℕ, ◌+◌, ◌≤◌, ◌<◌, [], ◌∷◌, length, IfOk, OnOk, OnErr, vec_capacity};
 ghost use Rattle.apl_base.specs.declared.faults.Place.{Place};
 ghost use Rattle.apl_base.specs.Array.{size_of};

@@ -1,3 +1,5 @@
+//! Copies of leaves in new owners.
+
 ghost use Rattle.std.specs.Prelude.{◌≡◌, ◌^◌, ◌<◌, ◌≤◌, [], ◌∷◌, ◌++◌, All, IfOk, IfErr, OnOk, vec_len, vec_capacity};
 ghost use Rattle.apl_base.specs.Array.{size_of};
 ghost use Rattle.apl_base.specs.Number.{IsCell};

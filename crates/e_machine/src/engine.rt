@@ -1,3 +1,5 @@
+//! Pending expressions computed by blocks.
+
 ghost use Rattle.std.specs.Prelude.{◌≡◌, ◌+◌, ◌*◌, ◌<◌, ◌≤◌, [], ◌∷◌, length, IsSome, IfOk, OnOk, None};
 ghost use Rattle.apl_base.specs.Array.{size_of};
 ghost use Rattle.array_store.specs.Stores.{IsStore};
@@ -136,7 +138,8 @@ pub fn compute(s: &Segment, store: &mut Store, cells: &mut Vec<Cell>) -> Result<
     requires leaves { AllLeaves (IsLawfulLeaf store.old) s.now.nodes }
     requires many { only_leaf s.now.nodes ≡ None }
     requires empty { cells.old.items ≡ [] }
-    ensures fault { IfOk result (λ first. first < length s.now.nodes → IsFirstFault store.old s.now first) }
+    ensures fault { IfOk result (λ first. first < length s.now.nodes
+        → IsFirstFault store.old s.now first) }
     ensures cells { IfOk result (λ first. length s.now.nodes ≤ first
         → HasElements store.old store.new s.now cells.new.items) }
     ensures counted { OnlyComputed store.old store.new (applications s.now) (fetches s.now) }

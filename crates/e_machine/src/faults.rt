@@ -1,3 +1,5 @@
+//! Why a pending expression is not computed.
+
 ghost use Rattle.std.specs.Prelude.{◌≡◌};
 ghost use Rattle.e_machine.specs.declared.faults.ForceFault.TheVariants as force_fault;
 ghost use Rattle.e_machine.specs.Refusals.{fault_of};
@@ -18,6 +20,7 @@ pub enum ForceFault {
 impl From<NoMemory> for ForceFault {
     ghost from_gives = { λ _ fault. fault ≡ force_fault.NoMemory };
 
+    /// The same cause, with its numbers.
     fn from(_fault: NoMemory) -> ForceFault {
         ForceFault::NoMemory
     }
@@ -26,6 +29,7 @@ impl From<NoMemory> for ForceFault {
 impl From<BeginFault> for ForceFault {
     ghost from_gives = { λ refused fault. fault ≡ fault_of refused };
 
+    /// The same cause, with its numbers.
     fn from(refused: BeginFault) -> ForceFault {
         match refused {
             BeginFault::WsFull { live, asked } => ForceFault::WsFull { live, asked },

@@ -1,3 +1,5 @@
+//! Pending expressions made into leaves.
+
 ghost use Rattle.std.specs.Prelude.{◌≡◌, ℕ, ◌≤◌, ◌∷◌, [], None, false, IfOk, IfErr, OnOk};
 ghost use Rattle.std.specs.Option.{ForSome};
 ghost use Rattle.array_store.specs.Stores.{IsStore, HasRoom};
@@ -23,7 +25,8 @@ pub fn force(s: &Segment, store: &mut Store) -> Result<Leaf, ForceFault>
     requires lawful { IsLawful store.old s.now }
     requires holders { ForSome (only_leaf s.now.nodes) (MayBeHeld store.old u128.MAX) }
     ensures forced { IfOk result (IsForced store.old store.new s.now) }
-    ensures within { IfOk result (λ leaf. s.now.may_fail ≡ false → LeafWithin store.new leaf s.now.range) }
+    ensures within { IfOk result (λ leaf. s.now.may_fail ≡ false
+        → LeafWithin store.new leaf s.now.range) }
     ensures room { OnOk result (HasRoomFor store.old s.now) }
     ensures follows { Follows store.old store.new none (named_by_answer result) }
     ensures refused { IfErr result (IsForceFault store.old store.new s.now) }

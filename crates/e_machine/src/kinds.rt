@@ -1,3 +1,5 @@
+//! The kinds of columns.
+
 ghost use Rattle.std.specs.Prelude.{◌≡◌, ◌<◌, [], ◌∷◌, length, OnOk};
 
 use apl_base::{Kind, NoMemory};

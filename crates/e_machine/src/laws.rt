@@ -1,3 +1,5 @@
+//! What forcing and copying leave of other pending expressions.
+
 ghost use Rattle.std.specs.Prelude.{◌≡◌, IfOk, IfErr};
 ghost use Rattle.std.specs.Option.{ForSome};
 ghost use Rattle.array_store.specs.Follows.{Holds};

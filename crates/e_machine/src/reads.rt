@@ -1,3 +1,5 @@
+//! Elements of leaves read at an index, and at a run of places.
+
 ghost use Rattle.std.specs.Prelude.{◌≡◌, ℕ, ◌+◌, ◌<◌, ◌≤◌, pos, ◌+ℤ◌, ◌*ℤ◌, ◌++◌, length, map, All, vec_len, vec_capacity};
 ghost use Rattle.std.specs.Int.{int_wrap};
 ghost use mir.Syntax.{w128};
@@ -70,10 +72,12 @@ pub fn read_places(leaf: &Leaf, first: u64, count: u64, store: &mut Store, into:
 fn read_row(leaf: &Leaf, row: Row, store: &mut Store, into: &mut Vec<Cell>)
     requires lawful { CanRead store.old leaf.now row.from row.step row.count }
     requires room { vec_len into.old + row.count ≤ vec_capacity into.old }
-    ensures cells { into.new.items ≡ into.old.items ++ row_cells store.old leaf.now row.from row.step row.count }
+    ensures cells { into.new.items
+        ≡ into.old.items ++ row_cells store.old leaf.now row.from row.step row.count }
     ensures capacity { vec_capacity into.old ≤ vec_capacity into.new }
     ensures counted { AreRead store.old store.new leaf.now row.count }
-    ensures lawful { All (IsCell (leaf_kind leaf.now)) (row_cells store.old leaf.now row.from row.step row.count) }
+    ensures lawful { All (IsCell (leaf_kind leaf.now))
+        (row_cells store.old leaf.now row.from row.step row.count) }
     ensures store { IsStore store.new }
 {
     let _counts = store.counts();

@@ -15,6 +15,7 @@ use e_machine::read_places;
 use std::alloc::{AllocError, Global};
 use std::test::Fail;
 
+// The cells of these values.
 fn filled(mut cells: Vec<Cell>, values: &[i8]) -> Result<Vec<Cell>, AllocError>
     requires { cells.items ≡ [] }
     ensures lawful { IfOk result (λ v. All IsNumber v.items) }

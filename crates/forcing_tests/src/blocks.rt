@@ -85,6 +85,7 @@ fn edges_give_differences(alloc: Global) -> Result<bool, Fail> {
     )
 }
 
+// Vectors whose lengths lie at the edges of a block give their elements.
 #[test]
 fn elements_at_the_edges_of_blocks(rt: HostRuntime) -> Result<(), Fail> {
     assert!(rt; edges_give_differences(rt.alloc())?);
@@ -150,6 +151,7 @@ fn blocks_fault(alloc: Global) -> Result<bool, Fail> {
     )
 }
 
+// A fault is that of the least node, in whichever block it fails.
 #[test]
 fn the_least_node_that_fails_in_any_block(rt: HostRuntime) -> Result<(), Fail> {
     assert!(rt; blocks_fault(rt.alloc())?);

@@ -42,6 +42,7 @@ fn halves_fault_at(alloc: Global, values: &[i8], at: Option<u32>) -> Result<bool
     Ok(found == wanted && store.counts().applied <= 6)
 }
 
+// Chains of functions give their elements, or the fault of the least node that fails.
 #[test]
 fn elements_and_faults(rt: HostRuntime) -> Result<(), Fail> {
     let alloc = rt.alloc();

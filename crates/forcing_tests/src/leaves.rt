@@ -84,6 +84,7 @@ fn holds_and_copies(alloc: Global) -> Result<bool, Fail> {
     Ok(holders == 2 && live == 6 && cells.as_slice() == [9, -2, 5].as_slice())
 }
 
+// Copies, elements and places read, and what is refused for want of room.
 #[test]
 fn leaves_asked(rt: HostRuntime) -> Result<(), Fail> {
     let alloc = rt.alloc();

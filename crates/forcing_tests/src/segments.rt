@@ -15,6 +15,7 @@ use array_store::Store;
 use drag_along::{Leaf, Segment, join1, join2, leaf_interval};
 use std::alloc::Global;
 
+// A place on the first line.
 pub fn column(column: u32) -> Place {
     Place { line: 1, column }
 }
@@ -61,7 +62,8 @@ pub fn chain(
 fn part(vector: &Leaf, count: i64) -> Leaf
     requires { CountsFit (leaf_shape vector.now) (count ∷ []) }
     ensures shape { leaf_shape result ≡ unsigned_abs count ∷ [] }
-    ensures lawful { (store : StoreView) → IsLawfulLeaf store vector.now → IsLawfulLeaf store result }
+    ensures lawful { (store : StoreView)
+        → IsLawfulLeaf store vector.now → IsLawfulLeaf store result }
 {
     match vector.copy() {
         Leaf::Stored {

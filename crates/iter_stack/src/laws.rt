@@ -1,3 +1,5 @@
+//! Which index an odometer gives, and that its walk ends.
+
 ghost use Rattle.std.specs.Prelude.{◌≡◌, ◌+◌, ◌-◌, ◌<◌, ◌≤◌, ℕ, Bool, List, [], ◌∷◌, length, drop, slice_index_or};
 ghost use Rattle.apl_base.specs.Array.{IsIndex, size_of};
 ghost use Rattle.iter_stack.specs.Indices.{indices_back, from_the_end, walk, item};

@@ -1,3 +1,5 @@
+//! The odometer: all indices of a shape in order.
+
 ghost use Rattle.std.specs.Prelude.{◌≡◌, ◌^◌, ◌≤◌, length};
 ghost use Rattle.apl_base.specs.Array.{IsIndex, size_of};
 ghost use Rattle.iter_stack.specs.Indices.{from_the_end, walk};
@@ -54,6 +56,7 @@ impl Iterator for Odometer {
 
     ghost remaining = { item_count (λ left. left) };
 
+    /// The next index, while there is one.
     fn next(&mut self) -> Option<SmallVec<u64, 8>> {
         if self.place == self.size {
             return None;

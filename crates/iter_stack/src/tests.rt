@@ -1,3 +1,5 @@
+//! Walks over ten shapes, and a caller that walks.
+
 ghost use Rattle.std.specs.Prelude.{◌≡◌};
 ghost use Rattle.apl_base.specs.Array.{size_of};
 

@@ -25,7 +25,8 @@ pub fn axis_of(axis: Axis, rank: usize) -> Result<usize, ErrorKind>
 fn numbered(k: Cell, rank: usize) -> Result<usize, ErrorKind>
     requires { rank ≤ 8 }
     ensures along { IfOk result (λ i. (i < rank) × (k ≡ pos 1 +ℤ pos i)) }
-    ensures refused { IfErr result (λ kind. (kind ≡ error.Rank) × ((k ≤ℤ pos 0) ⊎ (pos rank <ℤ k))) }
+    ensures refused { IfErr result (λ kind. (kind ≡ error.Rank)
+        × ((k ≤ℤ pos 0) ⊎ (pos rank <ℤ k))) }
 {
     if k < 1 || k > rank as Cell {
         return Err(ErrorKind::Rank);

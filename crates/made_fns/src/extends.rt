@@ -44,7 +44,8 @@ pub fn is_one(bit: &Cell) -> bool
 pub fn extended_shape(leaf: &Leaf, n: u64) -> Shape
     requires { n ≤ 2 ^ 40 }
     ensures shape { (store : StoreView) → result ≡ (extended_to n (array_of store leaf.now)).shape }
-    ensures axis { (k : ℕ) → (k < length (leaf_shape leaf.now)) ⊎ ((length (leaf_shape leaf.now) ≡ 0) × (k ≡ 0))
+    ensures axis { (k : ℕ)
+        → (k < length (leaf_shape leaf.now)) ⊎ ((length (leaf_shape leaf.now) ≡ 0) × (k ≡ 0))
         → k < length result }
     ensures lawful { IsShape result }
 {
@@ -58,7 +59,8 @@ pub fn extended_shape(leaf: &Leaf, n: u64) -> Shape
 /// The cells of a leaf once it extends to n elements, where it does.
 pub fn extended_cells(leaf: &Leaf, n: u64, store: &mut Store) -> Result<Vec<Cell>, NoMemory>
     requires { IsLawfulLeaf store.old leaf.now }
-    ensures cells { IfOk result (λ cells. cells.items ≡ (extended_to n (array_of store.old leaf.now)).cells) }
+    ensures cells { IfOk result (λ cells. cells.items
+        ≡ (extended_to n (array_of store.old leaf.now)).cells) }
     ensures counted { OnlyFetched store.old store.new (elements_in leaf.now) }
     ensures store { IsStore store.new }
 {
@@ -74,7 +76,8 @@ pub fn extended_cells(leaf: &Leaf, n: u64, store: &mut Store) -> Result<Vec<Cell
 /// The cells of a leaf, or where it has one element that one n times.
 pub fn bits_along(leaf: &Leaf, n: u64, store: &mut Store) -> Result<Vec<Cell>, NoMemory>
     requires { IsLawfulLeaf store.old leaf.now }
-    ensures cells { IfOk result (λ cells. cells.items ≡ bits_of_axis n (array_of store.old leaf.now)) }
+    ensures cells { IfOk result (λ cells. cells.items
+        ≡ bits_of_axis n (array_of store.old leaf.now)) }
     ensures counted { OnlyFetched store.old store.new (elements_in leaf.now) }
     ensures store { IsStore store.new }
 {
@@ -105,7 +108,8 @@ pub fn ones_along(leaf: &Leaf, n: u64, store: &mut Store) -> u64
 // The first cell of a leaf, n times.
 fn repeated_cell(leaf: &Leaf, n: u64, store: &mut Store) -> Result<Vec<Cell>, NoMemory>
     requires { IsLawfulLeaf store.old leaf.now }
-    ensures cells { IfOk result (λ cells. cells.items ≡ replicate n (first (array_of store.old leaf.now))) }
+    ensures cells { IfOk result (λ cells. cells.items
+        ≡ replicate n (first (array_of store.old leaf.now))) }
     ensures counted { OnlyFetched store.old store.new 1 }
     ensures store { IsStore store.new }
 {
@@ -119,7 +123,8 @@ fn repeated_cell(leaf: &Leaf, n: u64, store: &mut Store) -> Result<Vec<Cell>, No
 pub fn with_length(shape: &Shape, axis: usize, n: u64) -> Result<Shape, ErrorKind>
     requires { axis < length shape.now }
     ensures shape { IfOk result (λ other. (other ≡ slice_set shape.now axis n) × IsShape other) }
-    ensures refused { IfErr result (λ kind. (kind ≡ error.Limit) × ¬ (IsShape (slice_set shape.now axis n))) }
+    ensures refused { IfErr result (λ kind. (kind ≡ error.Limit)
+        × ¬ (IsShape (slice_set shape.now axis n))) }
 {
     let mut lengths = held_inline(shape.allocator(), shape.lengths());
     lengths.as_mut_slice()[axis] = n;

@@ -21,7 +21,8 @@ use made_leaf::{MadeFault, make_leaf, read_all, room_for, vector_shape};
 pub fn catenate(a: &Leaf, b: &Leaf, store: &mut Store) -> Result<Leaf, MadeFault>
     requires a { IsLawfulLeaf store.old a.now }
     requires b { IsLawfulLeaf store.old b.now }
-    ensures made { IsMadeBy (Fetched store.old (elements_in a.now + elements_in b.now)) store.old store.new
+    ensures made { IsMadeBy
+        (Fetched store.old (elements_in a.now + elements_in b.now)) store.old store.new
         (catenated (array_of store.old a.now) (array_of store.old b.now)) result }
     ensures store { IsStore store.new }
 {
@@ -41,7 +42,8 @@ fn joined_size(a: &Leaf, b: &Leaf) -> Result<u64, ErrorKind>
     ensures lawful { IsDesc (leaf_desc a.now) × IsDesc (leaf_desc b.now) }
     ensures size { IfOk result (λ n. n ≡ elements_in a.now + elements_in b.now) }
     ensures array { IfOk result (λ n. (store : StoreView)
-        → catenated (array_of store a.now) (array_of store b.now) ≡ Ok (joined_array store a.now b.now)) }
+        → catenated (array_of store a.now) (array_of store b.now)
+        ≡ Ok (joined_array store a.now b.now)) }
     ensures refused { IfErr result (λ kind. (store : StoreView)
         → catenated (array_of store a.now) (array_of store b.now) ≡ Err kind) }
 {

@@ -30,8 +30,10 @@ use std::alloc::Global;
 pub fn compress(a: &Leaf, b: &Leaf, axis: Axis, store: &mut Store) -> Result<Leaf, MadeFault>
     requires a { IsLawfulLeaf store.old a.now }
     requires b { IsLawfulLeaf store.old b.now }
-    ensures made { IsMadeBy (Fetched store.old (3 * elements_in a.now + elements_in b.now)) store.old store.new
-        (compressed_along (pos 1) axis (array_of store.old a.now) (array_of store.old b.now)) result }
+    ensures made { IsMadeBy
+        (Fetched store.old (3 * elements_in a.now + elements_in b.now)) store.old store.new
+        (compressed_along (pos 1) axis
+        (array_of store.old a.now) (array_of store.old b.now)) result }
     ensures store { IsStore store.new }
 {
     // It tells the proof that the store is one.
@@ -47,12 +49,15 @@ pub fn compress(a: &Leaf, b: &Leaf, axis: Axis, store: &mut Store) -> Result<Lea
 // The axis that becomes shorter, or the error.
 fn kept_axis(a: &Leaf, b: &Leaf, axis: Axis, store: &mut Store) -> Result<usize, ErrorKind>
     requires a { IsLawfulLeaf store.old a.now }
-    ensures can { IfOk result (λ k. (s : StoreView) → CanKeep k (array_of s a.now) (array_of s b.now)) }
+    ensures can { IfOk result (λ k. (s : StoreView)
+        → CanKeep k (array_of s a.now) (array_of s b.now)) }
     ensures lawful { IsDesc (leaf_desc a.now) × IsDesc (leaf_desc b.now) }
-    ensures array { IfOk result (λ k. compressed_along (pos 1) axis (array_of store.old a.now) (array_of store.old b.now)
+    ensures array { IfOk result (λ k.
+        compressed_along (pos 1) axis (array_of store.old a.now) (array_of store.old b.now)
         ≡ Ok (kept_array k (array_of store.old a.now) (array_of store.old b.now))) }
     ensures refused { IfErr result (λ kind.
-        compressed_along (pos 1) axis (array_of store.old a.now) (array_of store.old b.now) ≡ Err kind) }
+        compressed_along (pos 1) axis (array_of store.old a.now) (array_of store.old b.now)
+        ≡ Err kind) }
     ensures counted { OnlyFetched store.old store.new (elements_in a.now) }
     ensures store { IsStore store.new }
 {
@@ -74,7 +79,8 @@ fn kept_axis(a: &Leaf, b: &Leaf, axis: Axis, store: &mut Store) -> Result<usize,
 
 // Whether A has one number, or one for each number on B's axis, or B extends.
 fn fits(a: &Leaf, b: &Leaf, along: usize) -> bool
-    requires { (along < length (leaf_shape b.now)) ⊎ ((length (leaf_shape b.now) ≡ 0) × (along ≡ 0)) }
+    requires { (along < length (leaf_shape b.now))
+        ⊎ ((length (leaf_shape b.now) ≡ 0) × (along ≡ 0)) }
     ensures { result ≡ not (not (elements_in a.now == 1)
         && not ((elements_in b.now == 1) && nat_le (length (leaf_shape b.now)) 1)
         && not (elements_in a.now == slice_index (leaf_shape b.now) along)) }
@@ -93,8 +99,10 @@ fn fits(a: &Leaf, b: &Leaf, along: usize) -> bool
 fn kept_shape(a: &Leaf, b: &Leaf, along: usize, store: &mut Store) -> Shape
     requires a { IsLawfulLeaf store.old a.now }
     requires can { CanKeep along (array_of store.old a.now) (array_of store.old b.now) }
-    requires lawful { IsShape (kept_array along (array_of store.old a.now) (array_of store.old b.now)).shape }
-    ensures shape { result ≡ (kept_array along (array_of store.old a.now) (array_of store.old b.now)).shape }
+    requires lawful { IsShape (kept_array along (array_of store.old a.now)
+        (array_of store.old b.now)).shape }
+    ensures shape { result
+        ≡ (kept_array along (array_of store.old a.now) (array_of store.old b.now)).shape }
     ensures counted { OnlyFetched store.old store.new (elements_in a.now) }
     ensures store { IsStore store.new }
 {
@@ -120,11 +128,13 @@ fn fill_kept(
     requires a { IsLawfulLeaf store.old a.now }
     requires b { IsLawfulLeaf store.old b.now }
     requires can { CanKeep along (array_of store.old a.now) (array_of store.old b.now) }
-    requires shape { shape.now ≡ (kept_array along (array_of store.old a.now) (array_of store.old b.now)).shape }
+    requires shape { shape.now
+        ≡ (kept_array along (array_of store.old a.now) (array_of store.old b.now)).shape }
     requires empty { cells.old.items ≡ [] }
     requires room { size_of shape.now ≤ vec_capacity cells.old }
     ensures cells { OnOk result
-        (cells.new.items ≡ (kept_array along (array_of store.old a.now) (array_of store.old b.now)).cells) }
+        (cells.new.items
+        ≡ (kept_array along (array_of store.old a.now) (array_of store.old b.now)).cells) }
     ensures counted { OnlyFetched store.old store.new (elements_in a.now + elements_in b.now) }
     ensures store { IsStore store.new }
 {

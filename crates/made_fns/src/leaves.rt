@@ -38,7 +38,8 @@ pub fn is_text(leaf: &Leaf) -> bool
 
 /// Whether a leaf has one element, and one axis at most.
 pub fn is_extendable(leaf: &Leaf) -> bool
-    ensures value { result ≡ (elements_in leaf.now == 1) && nat_le (length (leaf_shape leaf.now)) 1 }
+    ensures value { result
+        ≡ (elements_in leaf.now == 1) && nat_le (length (leaf_shape leaf.now)) 1 }
     ensures lawful { IsDesc (leaf_desc leaf.now) }
 {
     elements(leaf) == 1 && rank(leaf) <= 1

@@ -30,7 +30,8 @@ const TOO_MANY: u128 = (1 << 40) + 1;
 pub fn reshape(a: &Leaf, b: &Leaf, store: &mut Store) -> Result<Leaf, MadeFault>
     requires a { IsLawfulLeaf store.old a.now }
     requires b { IsLawfulLeaf store.old b.now }
-    ensures made { IsMadeBy (Fetched store.old (3 * elements_in a.now + elements_in b.now)) store.old store.new
+    ensures made { IsMadeBy
+        (Fetched store.old (3 * elements_in a.now + elements_in b.now)) store.old store.new
         (reshaped (array_of store.old a.now) (array_of store.old b.now)) result }
     ensures store { IsStore store.new }
 {
@@ -46,11 +47,14 @@ pub fn reshape(a: &Leaf, b: &Leaf, store: &mut Store) -> Result<Leaf, MadeFault>
 // The shape of the result, or the error.
 fn new_shape(a: &Leaf, b: &Leaf, store: &mut Store) -> Result<Shape, ErrorKind>
     requires a { IsLawfulLeaf store.old a.now }
-    ensures shape { IfOk result (λ shape. (shape ≡ lengths_named (array_of store.old a.now)) × IsDesc (leaf_desc b.now)) }
+    ensures shape { IfOk result (λ shape. (shape ≡ lengths_named (array_of store.old a.now))
+        × IsDesc (leaf_desc b.now)) }
     ensures some { IfOk result (λ shape. 0 < size_of shape → 0 < elements_in b.now) }
-    ensures array { IfOk result (λ shape. reshaped (array_of store.old a.now) (array_of store.old b.now)
+    ensures array { IfOk result (λ shape.
+        reshaped (array_of store.old a.now) (array_of store.old b.now)
         ≡ Ok (reshaped_array (array_of store.old a.now) (array_of store.old b.now))) }
-    ensures refused { IfErr result (λ kind. reshaped (array_of store.old a.now) (array_of store.old b.now)
+    ensures refused { IfErr result (λ kind.
+        reshaped (array_of store.old a.now) (array_of store.old b.now)
         ≡ Err kind) }
     ensures counted { OnlyFetched store.old store.new (3 * elements_in a.now) }
     ensures store { IsStore store.new }
@@ -89,8 +93,10 @@ fn lacks_elements(a: &Leaf, b: &Leaf, store: &mut Store) -> bool
 /// The shape whose lengths are the magnitudes of a leaf's numbers, or LIMIT ERROR exactly where they make none.
 pub fn named_shape(a: &Leaf, store: &mut Store) -> Result<Shape, ErrorKind>
     requires a { IsLawfulLeaf store.old a.now }
-    ensures shape { IfOk result (λ shape. (shape ≡ lengths_named (array_of store.old a.now)) × IsShape shape) }
-    ensures refused { IfErr result (λ kind. (kind ≡ error.Limit) × ¬ (IsShape (lengths_named (array_of store.old a.now)))) }
+    ensures shape { IfOk result (λ shape. (shape ≡ lengths_named (array_of store.old a.now))
+        × IsShape shape) }
+    ensures refused { IfErr result (λ kind. (kind ≡ error.Limit)
+        × ¬ (IsShape (lengths_named (array_of store.old a.now)))) }
     ensures counted { OnlyFetched store.old store.new (elements_in a.now) }
     ensures store { IsStore store.new }
 {
@@ -110,7 +116,8 @@ pub fn named_shape(a: &Leaf, store: &mut Store) -> Result<Shape, ErrorKind>
 fn shape_of_cells(alloc: Global, cells: &[Cell]) -> Result<Shape, ErrorKind>
     requires { length cells.now ≤ 8 }
     ensures shape { IfOk result (λ shape. (shape ≡ map unsigned_abs cells.now) × IsShape shape) }
-    ensures refused { IfErr result (λ kind. (kind ≡ error.Limit) × ¬ (IsShape (map unsigned_abs cells.now))) }
+    ensures refused { IfErr result (λ kind. (kind ≡ error.Limit)
+        × ¬ (IsShape (map unsigned_abs cells.now))) }
 {
     let mut lengths = [0; 8];
     for (axis, cell) in cells.iter().enumerate() {

@@ -33,7 +33,8 @@ use std::alloc::Global;
 pub fn expand(a: &Leaf, b: &Leaf, axis: Axis, store: &mut Store) -> Result<Leaf, MadeFault>
     requires a { IsLawfulLeaf store.old a.now }
     requires b { IsLawfulLeaf store.old b.now }
-    ensures made { IsMadeBy (Fetched store.old (3 * elements_in a.now + elements_in b.now)) store.old store.new
+    ensures made { IsMadeBy
+        (Fetched store.old (3 * elements_in a.now + elements_in b.now)) store.old store.new
         (expanded_along (pos 1) axis (array_of store.old a.now) (array_of store.old b.now)) result }
     ensures store { IsStore store.new }
 {
@@ -54,10 +55,12 @@ fn bits_axis(a: &Leaf, b: &Leaf, axis: Axis, store: &mut Store) -> Result<usize,
     ensures within { IfOk result (λ k. (k < length (leaf_shape b.now))
         ⊎ ((length (leaf_shape b.now) ≡ 0) × (k ≡ 0))) }
     ensures lawful { IsDesc (leaf_desc a.now) × IsDesc (leaf_desc b.now) }
-    ensures array { IfOk result (λ k. expanded_along (pos 1) axis (array_of store.old a.now) (array_of store.old b.now)
+    ensures array { IfOk result (λ k.
+        expanded_along (pos 1) axis (array_of store.old a.now) (array_of store.old b.now)
         ≡ spaced_answer k (array_of store.old a.now) (array_of store.old b.now)) }
     ensures refused { IfErr result (λ kind.
-        expanded_along (pos 1) axis (array_of store.old a.now) (array_of store.old b.now) ≡ Err kind) }
+        expanded_along (pos 1) axis (array_of store.old a.now) (array_of store.old b.now)
+        ≡ Err kind) }
     ensures counted { OnlyFetched store.old store.new (elements_in a.now) }
     ensures store { IsStore store.new }
 {
@@ -80,7 +83,8 @@ fn spaced_shape(a: &Leaf, b: &Leaf, along: usize, count: u64) -> Result<Shape, E
         ⊎ ((length (leaf_shape b.now) ≡ 0) × (along ≡ 0)) }
     requires few { count ≤ 2 ^ 40 }
     ensures shape { IfOk result (λ shape. (s : StoreView)
-        → shape ≡ slice_set (extended_to count (array_of s b.now)).shape along (elements_in a.now)) }
+        → shape
+        ≡ slice_set (extended_to count (array_of s b.now)).shape along (elements_in a.now)) }
     ensures can { OnOk result ((s : StoreView) → CanSpace along count (array_of s b.now)) }
     ensures array { OnOk result ((s : StoreView) → count ≡ ones (array_of s a.now).cells
         → spaced_answer along (array_of s a.now) (array_of s b.now)
@@ -97,7 +101,8 @@ fn spaced_shape(a: &Leaf, b: &Leaf, along: usize, count: u64) -> Result<Shape, E
 
 // Whether B has so many elements along the axis, or extends.
 fn meets(b: &Leaf, along: usize, count: u64) -> bool
-    requires { (along < length (leaf_shape b.now)) ⊎ ((length (leaf_shape b.now) ≡ 0) × (along ≡ 0)) }
+    requires { (along < length (leaf_shape b.now))
+        ⊎ ((length (leaf_shape b.now) ≡ 0) × (along ≡ 0)) }
     ensures { result ≡ not (not ((elements_in b.now == 1) && nat_le (length (leaf_shape b.now)) 1)
         && not (count == slice_index (leaf_shape b.now) along)) }
 {
@@ -122,11 +127,13 @@ fn fill_spaced(
     requires count { count ≡ ones (array_of store.old a.now).cells }
     requires few { count ≤ 2 ^ 40 }
     requires can { CanSpace along count (array_of store.old b.now) }
-    requires shape { shape.now ≡ (spaced_array along (array_of store.old a.now) (array_of store.old b.now)).shape }
+    requires shape { shape.now
+        ≡ (spaced_array along (array_of store.old a.now) (array_of store.old b.now)).shape }
     requires empty { cells.old.items ≡ [] }
     requires room { size_of shape.now ≤ vec_capacity cells.old }
     ensures cells { OnOk result
-        (cells.new.items ≡ (spaced_array along (array_of store.old a.now) (array_of store.old b.now)).cells) }
+        (cells.new.items
+        ≡ (spaced_array along (array_of store.old a.now) (array_of store.old b.now)).cells) }
     ensures counted { OnlyFetched store.old store.new (elements_in a.now + elements_in b.now) }
     ensures store { IsStore store.new }
 {
@@ -153,7 +160,8 @@ fn fill_spaced(
 
 // The sources of the numbers on an axis that is spread by these bits.
 fn sources_of(alloc: Global, bits: &[Cell]) -> Result<Vec<Option<usize>>, NoMemory>
-    ensures { IfOk result (λ sources. sources.items ≡ map (spaced_source bits.now) (upward 0 (length bits.now))) }
+    ensures { IfOk result (λ sources. sources.items
+        ≡ map (spaced_source bits.now) (upward 0 (length bits.now))) }
 {
     let mut sources = Vec::new(alloc);
     let mut found = 0;
@@ -179,8 +187,8 @@ fn found_after(bit: &Cell, found: usize) -> usize
     if is_one(bit) { found + 1 } else { found }
 }
 
-// What stands where there is no element: 0, or a blank.
-fn blank_of(kind: Kind) -> Cell
+/// What stands where there is no element: 0, or a blank.
+pub fn blank_of(kind: Kind) -> Cell
     ensures { result ≡ fill kind }
 {
     match kind {

@@ -30,7 +30,8 @@ pub fn spread(
     requires empty { cells.old.items ≡ [] }
     requires room { size_of lengths.now ≤ vec_capacity cells.old }
     ensures { cells.new.items
-        ≡ map (spread_cell lengths.now along axis sources.now items.now blank) (upward 0 (size_of lengths.now)) }
+        ≡ map (spread_cell lengths.now along axis sources.now items.now blank)
+        (upward 0 (size_of lengths.now)) }
 {
     let length = sources.len();
     let run = size_behind(lengths, along);

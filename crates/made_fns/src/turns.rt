@@ -27,7 +27,8 @@ use made_leaf::{MadeFault, make_leaf, read_cells, room_for};
 pub fn rotate(a: &Leaf, b: &Leaf, axis: Axis, store: &mut Store) -> Result<Leaf, MadeFault>
     requires a { IsLawfulLeaf store.old a.now }
     requires b { IsLawfulLeaf store.old b.now }
-    ensures made { IsMadeBy (Fetched store.old (elements_in a.now + elements_in b.now)) store.old store.new
+    ensures made { IsMadeBy
+        (Fetched store.old (elements_in a.now + elements_in b.now)) store.old store.new
         (rotated (pos 1) axis (array_of store.old a.now) (array_of store.old b.now)) result }
     ensures store { IsStore store.new }
 {
@@ -51,7 +52,8 @@ pub fn rotate(a: &Leaf, b: &Leaf, axis: Axis, store: &mut Store) -> Result<Leaf,
 // The axis that is turned, or the error.
 fn turned_axis(a: &Leaf, b: &Leaf, axis: Axis) -> Result<usize, ErrorKind>
     ensures fits { IfOk result (TurnsFit (leaf_shape a.now) (leaf_shape b.now)) }
-    ensures within { IfOk result (λ k. (k < length (leaf_shape b.now)) ⊎ ((length (leaf_shape b.now) ≡ 0) × (k ≡ 0))) }
+    ensures within { IfOk result (λ k. (k < length (leaf_shape b.now))
+        ⊎ ((length (leaf_shape b.now) ≡ 0) × (k ≡ 0))) }
     ensures lawful { IsDesc (leaf_desc b.now) }
     ensures array { IfOk result (λ k. (store : StoreView)
         → rotated (pos 1) axis (array_of store a.now) (array_of store b.now)
@@ -104,7 +106,8 @@ fn turn(turns: &[Cell], items: &[Cell], lengths: &[u64], along: usize, cells: &m
     requires within { (along < length lengths.now) ⊎ ((length lengths.now ≡ 0) × (along ≡ 0)) }
     requires items { length items.now ≡ size_of lengths.now }
     requires few { size_of lengths.now ≤ 2 ^ 40 }
-    requires turns { (length turns.now ≡ 1) ⊎ (length turns.now ≡ size_of (remove lengths.now along)) }
+    requires turns { (length turns.now ≡ 1)
+        ⊎ (length turns.now ≡ size_of (remove lengths.now along)) }
     requires numbers { All IsNumber turns.now }
     requires empty { cells.old.items ≡ [] }
     requires room { size_of lengths.now ≤ vec_capacity cells.old }
@@ -127,7 +130,8 @@ fn turn_lines(turns: &[Cell], items: &[Cell], lengths: &[u64], along: usize, cel
     requires items { length items.now ≡ size_of lengths.now }
     requires some { 0 < size_of lengths.now }
     requires few { size_of lengths.now ≤ 2 ^ 40 }
-    requires turns { (length turns.now ≡ 1) ⊎ (length turns.now ≡ size_of (remove lengths.now along)) }
+    requires turns { (length turns.now ≡ 1)
+        ⊎ (length turns.now ≡ size_of (remove lengths.now along)) }
     requires numbers { All IsNumber turns.now }
     requires empty { cells.old.items ≡ [] }
     requires room { size_of lengths.now ≤ vec_capacity cells.old }
@@ -159,7 +163,8 @@ fn turn_of(turns: &[Cell], axis: usize, run: usize, place: usize) -> Cell
     requires axis { 0 < axis }
     requires run { 0 < run }
     requires few { axis * run ≤ 2 ^ 40 }
-    requires line { (length turns.now ≡ 1) ⊎ (place / (axis * run) * run + place % run < length turns.now) }
+    requires line { (length turns.now ≡ 1)
+        ⊎ (place / (axis * run) * run + place % run < length turns.now) }
     requires numbers { All IsNumber turns.now }
     ensures turn { result ≡ slice_index_or turns.now (if length turns.now == 1 then 0
         else place / (axis * run) * run + place % run) (pos 0) }

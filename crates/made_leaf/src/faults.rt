@@ -1,3 +1,5 @@
+//! Why a function of whole arrays is refused.
+
 ghost use Rattle.std.specs.Prelude.{◌≡◌};
 ghost use Rattle.made_leaf.specs.declared.faults.MadeFault.TheVariants as made_fault;
 ghost use Rattle.made_leaf.specs.Made.{fault_of};

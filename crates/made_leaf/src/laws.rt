@@ -1,3 +1,5 @@
+//! What is left as it was when a leaf is made.
+
 ghost use Rattle.made_leaf.specs.Laws.{MadeIsOnlyMade, MadeStands, MadeFollows, OthersKept, ArgumentKept, PendingKept, LeavesAreArrays};
 
 /// What is so after every answer of a function that is made at once: the leaf stands for its array, holders follow

@@ -1,3 +1,5 @@
+//! New owners for cells that were made, and room for them.
+
 ghost use Rattle.std.specs.Prelude.{◌≡◌, ◌^◌, ◌≤◌, [], ◌∷◌, length, All, IfOk, IfErr, OnOk, OnErr, vec_len, vec_capacity};
 ghost use Rattle.apl_base.specs.Array.{size_of};
 ghost use Rattle.apl_base.specs.Number.{IsCell};

@@ -1,3 +1,5 @@
+//! Cells of arguments read by blocks.
+
 ghost use Rattle.std.specs.Prelude.{◌≡◌, ℕ, ◌+◌, ◌<◌, ◌≤◌, pos, ◌+ℤ◌, ◌*ℤ◌, ◌++◌, length, All, IfOk, OnOk, vec_len, vec_capacity};
 ghost use Rattle.std.specs.Int.{int_wrap};
 ghost use mir.Syntax.{w128};

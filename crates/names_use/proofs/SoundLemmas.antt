@@ -4,8 +4,8 @@ use Rattle.std.specs.Prelude.{◌≤ℤ◌, ◌<ℤ◌}
 use Rattle.std.proofs.lemmas.Bool.{eq-eqb}
 use Rattle.std.proofs.lemmas.Int.{ints}
 use Rattle.apl_base.specs.declared.cells.Kind.{Kind}
-use Rattle.apl_base.specs.Array.{IsIndex}
-use Rattle.array_desc.specs.Desc.{DescView, number}
+use Rattle.apl_base.specs.Array.{IsIndex, size_of}
+use Rattle.array_desc.specs.Desc.{DescView, number, Selects}
 use Rattle.array_store.specs.Stores.{StoreView, empty_store, holders_of, cells_of, kind_of}
 use Rattle.array_store.specs.Follows.{LeafCounts, Follows, Holds, none, both, one_of}
 use Rattle.array_store.specs.declared.ids.Counts.{Counts}
@@ -143,3 +143,20 @@ nothing_sound limit store names e f =
       held = λ key. refl;
     } in
     subst (λ (s : StoreView). IsSound s names) (sym e) (subst (IsSound (empty_store limit)) (sym f) start)
+
+-- ---- a leaf that is turned round
+
+pub selected_lies : (store : StoreView) (owner : ℕ) (old new : DescView) (kind : Kind) (lengths : List ℕ) (read : List ℕ → List ℕ) → Selects old new lengths read → LiesIn store owner old kind → LiesIn store owner new kind
+selected_lies store owner old new kind lengths read s lies =
+    let there : (i : List ℕ) → IsIndex new.shape i → IsIndex lengths i = λ i h. subst (λ (ns : List ℕ). IsIndex ns i) s.shape h in
+    record {
+      live = lies.live;
+      kind = lies.kind;
+      low = λ i h. subst (λ z. pos 0 ≤ℤ z) (sym (s.number i (there i h))) (lies.low (read i) (s.index i (there i h)));
+      high = λ i h.
+          subst (λ z. z <ℤ pos (length (cells_of store owner))) (sym (s.number i (there i h))) (lies.high (read i) (s.index i (there i h)));
+    }
+
+-- it fills its owner as it did
+pub as_large_fills : (store : StoreView) (owner : ℕ) (old new : DescView) (kind : Kind) → new.shape ≡ old.shape → FillsOwner store (Stored owner old kind) → FillsOwner store (Stored owner new kind)
+as_large_fills store owner old new kind shape fills = subst (λ (ns : List ℕ). length (cells_of store owner) ≤ size_of ns) (sym shape) fills

@@ -5,4 +5,7 @@
 mod tests;
 mod uses;
 
-pub use uses::{enter, first_element, forget, leave, nothing, set_copies, set_first, share};
+pub use uses::{
+    enter, first_element, forget, holders, leave, nothing, set_copies, set_first, set_reversed,
+    share,
+};

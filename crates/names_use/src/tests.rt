@@ -1,6 +1,11 @@
+//! Names that share an owner, hide one another, and are set again.
+
 ghost use Rattle.names_use.specs.Uses.{IsSound};
 
-use crate::{enter, first_element, forget, leave, nothing, set_copies, set_first, share};
+use crate::{
+    enter, first_element, forget, holders, leave, nothing, set_copies, set_first, set_reversed,
+    share,
+};
 use apl_base::{Cell, Name, NoMemory, Shape};
 use array_store::{BeginFault, Store};
 use drag_along::Leaf;
@@ -192,6 +197,36 @@ fn a_part_is_copied_where_there_is_room(rt: HostRuntime) -> Result<(), Fail> {
     let (mut names, mut store) = nothing(rt.alloc(), 4);
     let of = named(rt.alloc())?;
     let holds = copied(rt.alloc(), &mut names, &mut store, &of)?;
+    assert!(rt; holds);
+    Ok(())
+}
+
+// All of an owner turned round keeps the owner, which has a holder more; a part of it does not.
+fn turned(
+    alloc: Global,
+    names: &mut Names,
+    store: &mut Store,
+    of: &Three,
+) -> Result<bool, BeginFault>
+    requires sound { IsSound store.old names.old }
+{
+    vector(alloc, names, store, &of.a, 6, 3)?;
+    let alone = holders(names, store, &of.a);
+    set_reversed(names, store, &of.b, &of.a)?;
+    let shared = holders(names, store, &of.a);
+    let kept = key_of(names, &of.b) == key_of(names, &of.a) && store.live() == 3;
+    set_first(alloc, names, store, &of.c, &of.a)?;
+    let apart = key_of(names, &of.c) != key_of(names, &of.a) && store.live() == 4;
+    let own = holders(names, store, &of.c);
+    let still = holders(names, store, &of.a);
+    Ok(alone == Some(1) && shared == Some(2) && kept && apart && own == Some(1) && still == shared)
+}
+
+#[test]
+fn a_reversed_whole_keeps_its_owner(rt: HostRuntime) -> Result<(), Fail> {
+    let (mut names, mut store) = nothing(rt.alloc(), 9);
+    let of = named(rt.alloc())?;
+    let holds = turned(rt.alloc(), &mut names, &mut store, &of)?;
     assert!(rt; holds);
     Ok(())
 }

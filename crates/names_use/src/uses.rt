@@ -87,6 +87,47 @@ pub fn set_first(
     names.set(to, leaf, store)
 }
 
+/// Sets a name to what another one has, turned round along its first axis, where it is stored and has one. Nothing is
+/// counted.
+pub fn set_reversed(
+    names: &mut Names,
+    store: &mut Store,
+    to: &Name,
+    from: &Name,
+) -> Result<(), BeginFault>
+    requires sound { IsSound store.old names.old }
+    ensures sound { IsSound store.new names.new }
+    ensures free { store.new.counts ≡ store.old.counts }
+{
+    // That no owner has more holders than a number of 128 bits tells.
+    let _depth = names.depth();
+    let Some(Leaf::Stored { owner, desc, kind }) = names.get(from) else {
+        return Ok(());
+    };
+    if desc.shape.rank() == 0 {
+        return Ok(());
+    }
+    let mut reversed = desc.copy();
+    reversed.reverse(0);
+    let turned = Leaf::Stored {
+        owner: *owner,
+        desc: reversed,
+        kind: *kind,
+    };
+    let leaf = turned.held(store);
+    names.set(to, leaf, store)
+}
+
+/// How many leaves hold the owner that a name names, where it names one.
+pub fn holders(names: &Names, store: &Store, name: &Name) -> Option<u128>
+    requires sound { IsSound store.now names.now }
+{
+    let Some(Leaf::Stored { owner, .. }) = names.get(name) else {
+        return None;
+    };
+    Some(store.holders(*owner))
+}
+
 /// The first element of what a name has, where there is one.
 pub fn first_element(names: &Names, store: &mut Store, name: &Name) -> Option<Cell>
     requires sound { IsSound store.old names.now }

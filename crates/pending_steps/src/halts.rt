@@ -18,6 +18,7 @@ impl From<NoMemory> for Halt {
 
     ghost from_gives = { λ _ halt. halt ≡ NoMemory };
 
+    /// The same cause; a fault of a function is a DOMAIN ERROR at its place.
     fn from(_fault: NoMemory) -> Halt {
         Halt::NoMemory
     }
@@ -29,6 +30,7 @@ impl From<ForceFault> for Halt {
 
     ghost from_gives = { λ fault halt. halt ≡ halt_of fault };
 
+    /// The same cause; a fault of a function is a DOMAIN ERROR at its place.
     fn from(fault: ForceFault) -> Halt {
         match fault {
             ForceFault::Fault { place } => Halt::Error {

@@ -99,7 +99,8 @@ fn push_stored(
 fn stored_literal(alloc: Global, literal: &Literal, store: &mut Store) -> Result<Leaf, Halt>
     requires literal { IsLiteral literal.now }
     requires many { length literal.now.cells ≢ 1 }
-    ensures stands { IfOk result (λ leaf. StandsForArray store.new leaf (literal_array literal.now)) }
+    ensures stands { IfOk result (λ leaf.
+        StandsForArray store.new leaf (literal_array literal.now)) }
     ensures follows { Follows store.old store.new none (named_by_answer result) }
     ensures stopped { IfErr result (IsStopped store.old.limit) }
 {

@@ -75,7 +75,8 @@ fn join_newest(
 ) -> Result<(), NoMemory>
     requires operand { 0 < length stack.old }
     requires lawful { IsLawfulStack store.now stack.old }
-    requires few { (segment : SegmentView) → slice_get stack.old (length stack.old - 1) ≡ Some segment
+    requires few { (segment : SegmentView)
+        → slice_get stack.old (length stack.old - 1) ≡ Some segment
         → functions_in segment.nodes < 64 }
     ensures step { OnOk result (Steps (record { place = place; op = Mon (ScalarOne f) }) 1 1
         (entries store.now stack.old) (entries store.now stack.new)) }

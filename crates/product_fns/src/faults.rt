@@ -1,3 +1,5 @@
+//! Why an outer product is refused.
+
 ghost use Rattle.std.specs.Prelude.{◌≡◌};
 ghost use Rattle.product_fns.specs.declared.faults.OuterFault.TheVariants as outer_fault;
 
@@ -14,6 +16,7 @@ pub enum OuterFault {
 impl From<NoMemory> for OuterFault {
     ghost from_gives = { λ _ fault. fault ≡ outer_fault.NoMemory };
 
+    /// The same cause, with its numbers.
     fn from(_fault: NoMemory) -> OuterFault {
         OuterFault::NoMemory
     }
@@ -22,6 +25,7 @@ impl From<NoMemory> for OuterFault {
 impl From<TooLarge> for OuterFault {
     ghost from_gives = { λ _ fault. fault ≡ outer_fault.Limit };
 
+    /// The same cause, with its numbers.
     fn from(_fault: TooLarge) -> OuterFault {
         OuterFault::Limit
     }

@@ -1,3 +1,5 @@
+//! Products with ample memory, and their refusals.
+
 ghost use Rattle.std.specs.Prelude.{◌≡◌, ℕ, ◌≤◌};
 ghost use Rattle.array_store.specs.Stores.{StoreView};
 ghost use Rattle.drag_along.specs.Lawful.{IsLawfulLeaf};

@@ -242,6 +242,7 @@ fn with_parentheses(alloc: Global, begin: &str, count: usize, end: &str) -> Resu
     Ok(script)
 }
 
+// Each script of the table is refused at its first fault, or accepted.
 #[test]
 fn the_first_refusal_of_each_script(rt: HostRuntime) -> Result<(), Fail> {
     let alloc = rt.alloc();
@@ -267,6 +268,7 @@ fn shown_items(alloc: Global, source: &str) -> Result<String, Fail> {
     }
 }
 
+// A script with one of each kind of item has these items.
 #[test]
 fn the_items_of_a_script(rt: HostRuntime) -> Result<(), Fail> {
     let source = "1\n\n)VARS\n∇Z←F X;L\nZ←X\n\nM:→M\n∇\n∇G\n∇\nF 2\n";

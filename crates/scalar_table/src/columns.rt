@@ -1,3 +1,5 @@
+//! Scalar functions over columns of cells.
+
 ghost use Rattle.std.specs.Prelude.{◌≡◌, [], ◌∷◌, length, All};
 ghost use Rattle.apl_base.specs.declared.cells.Elem.{Elem};
 ghost use Rattle.apl_base.specs.Number.{IsCell, IsNumber};
@@ -14,7 +16,9 @@ pub(crate) fn column_of_one<R: ScalarRow<Arguments = Elem>>(
 ) -> Option<usize>
     requires arguments { (b : Elem) → R.elements b ≡ b ∷ [] }
     requires lawful { All (IsCell kind) column.old }
-    ensures values { IsColumn (λ k. scalar R.function (element_in kind column.old k ∷ [])) column.new result }
+    ensures values { IsColumn
+        (λ k. scalar R.function (element_in kind column.old k ∷ []))
+        column.new result }
     ensures numbers { result ≡ None → All IsNumber column.new }
 {
     for k in 0..column.len() {
@@ -39,7 +43,9 @@ pub(crate) fn column_of_two<R: ScalarRow<Arguments = (Elem, Elem)>>(
     requires same { length left.now ≡ length right.old }
     requires left_lawful { All (IsCell left_kind) left.now }
     requires right_lawful { All (IsCell right_kind) right.old }
-    ensures values { IsColumn (λ k. scalar R.function (element_in left_kind left.now k ∷ element_in right_kind right.old k ∷ [])) right.new result }
+    ensures values { IsColumn
+        (λ k. scalar R.function (element_in left_kind left.now k ∷ element_in right_kind right.old k ∷ []))
+        right.new result }
     ensures numbers { result ≡ None → All IsNumber right.new }
 {
     for k in 0..right.len() {

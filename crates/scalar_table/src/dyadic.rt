@@ -1,3 +1,5 @@
+//! The scalar functions of two arguments.
+
 ghost use Rattle.std.specs.Prelude.{[], ◌∷◌, refl};
 ghost use Rattle.apl_base.specs.declared.rows.Dya.TheVariants as dya;
 ghost use Rattle.apl_base.specs.Scalar.{scalar2};
@@ -52,6 +54,7 @@ impl ScalarRow for Add {
 
     ghost lawful = { λ x h. scalar2-lawful dya.Add x.0 x.1 h.0 h.1.0 };
 
+    /// The value at these two elements, or none where there is none.
     fn value_at((a, b): (Elem, Elem)) -> Option<Elem> {
         at_numbers!(a, b, sum_of(a.cell, b.cell))
     }
@@ -74,6 +77,7 @@ impl ScalarRow for Sub {
 
     ghost lawful = { λ x h. scalar2-lawful dya.Sub x.0 x.1 h.0 h.1.0 };
 
+    /// The value at these two elements, or none where there is none.
     fn value_at((a, b): (Elem, Elem)) -> Option<Elem> {
         at_numbers!(a, b, difference_of(a.cell, b.cell))
     }
@@ -96,6 +100,7 @@ impl ScalarRow for Mul {
 
     ghost lawful = { λ x h. scalar2-lawful dya.Mul x.0 x.1 h.0 h.1.0 };
 
+    /// The value at these two elements, or none where there is none.
     fn value_at((a, b): (Elem, Elem)) -> Option<Elem> {
         at_numbers!(a, b, product_of(a.cell, b.cell))
     }
@@ -118,6 +123,7 @@ impl ScalarRow for Div {
 
     ghost lawful = { λ x h. scalar2-lawful dya.Div x.0 x.1 h.0 h.1.0 };
 
+    /// The value at these two elements, or none where there is none.
     fn value_at((a, b): (Elem, Elem)) -> Option<Elem> {
         at_numbers!(a, b, quotient_of(a.cell, b.cell))
     }
@@ -140,6 +146,7 @@ impl ScalarRow for Pow {
 
     ghost lawful = { λ x h. scalar2-lawful dya.Pow x.0 x.1 h.0 h.1.0 };
 
+    /// The value at these two elements, or none where there is none.
     fn value_at((a, b): (Elem, Elem)) -> Option<Elem> {
         at_numbers!(a, b, power_of(a.cell, b.cell))
     }
@@ -162,6 +169,7 @@ impl ScalarRow for Max {
 
     ghost lawful = { λ x h. scalar2-lawful dya.Max x.0 x.1 h.0 h.1.0 };
 
+    /// The value at these two elements, or none where there is none.
     fn value_at((a, b): (Elem, Elem)) -> Option<Elem> {
         at_numbers!(a, b, Some(a.cell.max(b.cell)))
     }
@@ -184,6 +192,7 @@ impl ScalarRow for Min {
 
     ghost lawful = { λ x h. scalar2-lawful dya.Min x.0 x.1 h.0 h.1.0 };
 
+    /// The value at these two elements, or none where there is none.
     fn value_at((a, b): (Elem, Elem)) -> Option<Elem> {
         at_numbers!(a, b, Some(a.cell.min(b.cell)))
     }
@@ -206,6 +215,7 @@ impl ScalarRow for Residue {
 
     ghost lawful = { λ x h. scalar2-lawful dya.Residue x.0 x.1 h.0 h.1.0 };
 
+    /// The value at these two elements, or none where there is none.
     fn value_at((a, b): (Elem, Elem)) -> Option<Elem> {
         at_numbers!(a, b, residue_of(a.cell, b.cell))
     }
@@ -228,6 +238,7 @@ impl ScalarRow for And {
 
     ghost lawful = { λ x h. scalar2-lawful dya.And x.0 x.1 h.0 h.1.0 };
 
+    /// The value at these two elements, or none where there is none.
     fn value_at((a, b): (Elem, Elem)) -> Option<Elem> {
         at_truths!(a, b, |p, q| p && q)
     }
@@ -250,6 +261,7 @@ impl ScalarRow for Or {
 
     ghost lawful = { λ x h. scalar2-lawful dya.Or x.0 x.1 h.0 h.1.0 };
 
+    /// The value at these two elements, or none where there is none.
     fn value_at((a, b): (Elem, Elem)) -> Option<Elem> {
         at_truths!(a, b, |p, q| p || q)
     }
@@ -272,6 +284,7 @@ impl ScalarRow for Nand {
 
     ghost lawful = { λ x h. scalar2-lawful dya.Nand x.0 x.1 h.0 h.1.0 };
 
+    /// The value at these two elements, or none where there is none.
     fn value_at((a, b): (Elem, Elem)) -> Option<Elem> {
         at_truths!(a, b, |p, q| !(p && q))
     }
@@ -294,6 +307,7 @@ impl ScalarRow for Nor {
 
     ghost lawful = { λ x h. scalar2-lawful dya.Nor x.0 x.1 h.0 h.1.0 };
 
+    /// The value at these two elements, or none where there is none.
     fn value_at((a, b): (Elem, Elem)) -> Option<Elem> {
         at_truths!(a, b, |p, q| !(p || q))
     }
@@ -316,6 +330,7 @@ impl ScalarRow for Lt {
 
     ghost lawful = { λ x h. scalar2-lawful dya.Lt x.0 x.1 h.0 h.1.0 };
 
+    /// The value at these two elements, or none where there is none.
     fn value_at((a, b): (Elem, Elem)) -> Option<Elem> {
         at_numbers!(a, b, Some(truth_of(a.cell < b.cell)))
     }
@@ -338,6 +353,7 @@ impl ScalarRow for Le {
 
     ghost lawful = { λ x h. scalar2-lawful dya.Le x.0 x.1 h.0 h.1.0 };
 
+    /// The value at these two elements, or none where there is none.
     fn value_at((a, b): (Elem, Elem)) -> Option<Elem> {
         at_numbers!(a, b, Some(truth_of(a.cell <= b.cell)))
     }
@@ -360,6 +376,7 @@ impl ScalarRow for Eq {
 
     ghost lawful = { λ x h. scalar2-lawful dya.Eq x.0 x.1 h.0 h.1.0 };
 
+    /// The value at these two elements, or none where there is none.
     fn value_at((a, b): (Elem, Elem)) -> Option<Elem> {
         number(Some(truth_of(a == b)))
     }
@@ -382,6 +399,7 @@ impl ScalarRow for Ge {
 
     ghost lawful = { λ x h. scalar2-lawful dya.Ge x.0 x.1 h.0 h.1.0 };
 
+    /// The value at these two elements, or none where there is none.
     fn value_at((a, b): (Elem, Elem)) -> Option<Elem> {
         at_numbers!(a, b, Some(truth_of(a.cell >= b.cell)))
     }
@@ -404,6 +422,7 @@ impl ScalarRow for Gt {
 
     ghost lawful = { λ x h. scalar2-lawful dya.Gt x.0 x.1 h.0 h.1.0 };
 
+    /// The value at these two elements, or none where there is none.
     fn value_at((a, b): (Elem, Elem)) -> Option<Elem> {
         at_numbers!(a, b, Some(truth_of(a.cell > b.cell)))
     }
@@ -426,6 +445,7 @@ impl ScalarRow for Ne {
 
     ghost lawful = { λ x h. scalar2-lawful dya.Ne x.0 x.1 h.0 h.1.0 };
 
+    /// The value at these two elements, or none where there is none.
     fn value_at((a, b): (Elem, Elem)) -> Option<Elem> {
         number(Some(truth_of(a != b)))
     }

@@ -87,7 +87,9 @@ pub fn apply2_column(
     requires same { length left.now ≡ length right.old }
     requires left { All (IsCell left_kind) left.now }
     requires right { All (IsCell right_kind) right.old }
-    ensures values { IsColumn (λ k. scalar2 f (element_in left_kind left.now k) (element_in right_kind right.old k)) right.new result }
+    ensures values { IsColumn
+        (λ k. scalar2 f (element_in left_kind left.now k) (element_in right_kind right.old k))
+        right.new result }
     ensures numbers { result ≡ None → All IsNumber right.new }
 {
     column_by_row!(Dya, f, column_of_two, (left_kind, left, right_kind, right);

@@ -1,3 +1,5 @@
+//! The scalar functions of one argument.
+
 ghost use Rattle.std.specs.Prelude.{[], ◌∷◌, refl};
 ghost use Rattle.apl_base.specs.declared.rows.Mon.TheVariants as mon;
 ghost use Rattle.apl_base.specs.Scalar.{scalar1};
@@ -35,6 +37,7 @@ impl ScalarRow for Plus {
 
     ghost lawful = { λ b h. scalar1-lawful mon.Plus b h.0 };
 
+    /// The value at this element, or none where there is none.
     fn value_at(b: Elem) -> Option<Elem> {
         at_number!(b, Some(b.cell))
     }
@@ -57,6 +60,7 @@ impl ScalarRow for Minus {
 
     ghost lawful = { λ b h. scalar1-lawful mon.Minus b h.0 };
 
+    /// The value at this element, or none where there is none.
     fn value_at(b: Elem) -> Option<Elem> {
         at_number!(b, Some(-b.cell))
     }
@@ -79,6 +83,7 @@ impl ScalarRow for Sign {
 
     ghost lawful = { λ b h. scalar1-lawful mon.Sign b h.0 };
 
+    /// The value at this element, or none where there is none.
     fn value_at(b: Elem) -> Option<Elem> {
         at_number!(b, Some(b.cell.signum()))
     }
@@ -101,6 +106,7 @@ impl ScalarRow for Recip {
 
     ghost lawful = { λ b h. scalar1-lawful mon.Recip b h.0 };
 
+    /// The value at this element, or none where there is none.
     fn value_at(b: Elem) -> Option<Elem> {
         at_number!(b, reciprocal_of(b.cell))
     }
@@ -123,6 +129,7 @@ impl ScalarRow for Ceil {
 
     ghost lawful = { λ b h. scalar1-lawful mon.Ceil b h.0 };
 
+    /// The value at this element, or none where there is none.
     fn value_at(b: Elem) -> Option<Elem> {
         at_number!(b, Some(b.cell))
     }
@@ -145,6 +152,7 @@ impl ScalarRow for Floor {
 
     ghost lawful = { λ b h. scalar1-lawful mon.Floor b h.0 };
 
+    /// The value at this element, or none where there is none.
     fn value_at(b: Elem) -> Option<Elem> {
         at_number!(b, Some(b.cell))
     }
@@ -167,6 +175,7 @@ impl ScalarRow for Abs {
 
     ghost lawful = { λ b h. scalar1-lawful mon.Abs b h.0 };
 
+    /// The value at this element, or none where there is none.
     fn value_at(b: Elem) -> Option<Elem> {
         at_number!(b, Some(b.cell.abs()))
     }
@@ -189,6 +198,7 @@ impl ScalarRow for Not {
 
     ghost lawful = { λ b h. scalar1-lawful mon.Not b h.0 };
 
+    /// The value at this element, or none where there is none.
     fn value_at(b: Elem) -> Option<Elem> {
         at_number!(b, negation_of(b.cell))
     }
@@ -211,6 +221,7 @@ impl ScalarRow for Fact {
 
     ghost lawful = { λ b h. scalar1-lawful mon.Fact b h.0 };
 
+    /// The value at this element, or none where there is none.
     fn value_at(b: Elem) -> Option<Elem> {
         at_number!(b, factorial_of(b.cell))
     }

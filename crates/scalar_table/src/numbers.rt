@@ -1,3 +1,5 @@
+//! The numbers of the language: sums, products, powers, quotients.
+
 ghost use Rattle.std.specs.Prelude.{◌≡◌, ◌<◌, pos, unsigned_abs, ◌+ℤ◌, ◌-ℤ◌, ◌*ℤ◌};
 ghost use Rattle.apl_base.specs.Number.{IsNumber};
 ghost use Rattle.apl_base.specs.Scalar.{in_range, residue, power, quotient, factorial_of, truth, truth_value, number, of_number};

@@ -1,3 +1,5 @@
+//! What each scalar function is proved to be.
+
 ghost use Rattle.std.specs.Prelude.{◌≡◌, List, Option, IfSome};
 ghost use Rattle.std.specs.List.{AllByRecursion};
 ghost use Rattle.apl_base.specs.declared.cells.Elem.{Elem};

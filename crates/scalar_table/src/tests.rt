@@ -1,3 +1,5 @@
+//! Each function at the ends of where it is defined.
+
 ghost use Rattle.std.specs.Prelude.{◌≡◌, ◌↔◌, IsTrue};
 ghost use Rattle.apl_base.specs.declared.cells.Kind.TheVariants.{Num};
 ghost use Rattle.apl_base.specs.Number.{IsNumber};

@@ -1,3 +1,5 @@
+//! Segments and their joins with ample memory.
+
 ghost use Rattle.std.specs.Prelude.{◌≡◌, [], IfOk};
 ghost use Rattle.apl_base.specs.Number.{IsNumber};
 ghost use Rattle.drag_along.specs.Nodes.{functions_in};
@@ -21,6 +23,7 @@ fn pending(alloc: Global, number: Cell) -> Result<Segment, NoMemory>
     Segment::of_leaf(alloc, leaf, Interval::Span { lo: -M, hi: M })
 }
 
+// Segments and their joins are made where there is memory.
 #[test]
 fn joins_with_ample_memory(rt: HostRuntime) -> Result<(), Fail> {
     let place = Place { line: 1, column: 2 };

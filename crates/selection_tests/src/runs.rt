@@ -1,3 +1,5 @@
+//! Progressions and their folds against tables.
+
 ghost use Rattle.std.specs.Prelude.{◌≡◌, ℕ, ◌<◌, ◌≤◌, pos, ◌+ℤ◌, ◌*ℤ◌, ◌≤ℤ◌, ◌<ℤ◌, List, [], ◌∷◌, length, All, IfOk, vec_len};
 ghost use Rattle.apl_base.specs.Array.{IsIndex};
 ghost use Rattle.apl_base.specs.Number.{IsNumber};
@@ -14,6 +16,7 @@ use std::test::Fail;
 
 // ---- progressions
 
+// The cells of these numbers.
 fn filled(mut cells: Vec<Cell>, numbers: &[Cell]) -> Result<Vec<Cell>, NoMemory>
     requires { cells.items ≡ [] }
     ensures numbers { IfOk result (λ v. All IsNumber v.items) }
@@ -76,6 +79,7 @@ const VECTORS: [(&[Cell], bool, Option<(Cell, Cell, u64)>, u64); 10] = [
     (&[1, 2, 3, 4, 6], false, None, 5),
 ];
 
+// Each vector of the table is the progression that stands beside it, or none.
 #[test]
 fn progressions(rt: HostRuntime) -> Result<(), Fail> {
     for (numbers, backwards, run, fetched) in VECTORS {
@@ -106,6 +110,7 @@ fn three(alloc: Global, from: Cell, step: Cell) -> Result<Segment, NoMemory>
     Segment::of_leaf(alloc, leaf, range)
 }
 
+// Three numbers at a distance, pending and not stored.
 fn line(alloc: Global, from: i8, step: i8) -> Result<Segment, NoMemory>
     ensures shape { IfOk result (λ s. s.shape ≡ 3 ∷ []) }
     ensures range { IfOk result NumbersInRange }
@@ -113,6 +118,7 @@ fn line(alloc: Global, from: i8, step: i8) -> Result<Segment, NoMemory>
     three(alloc, Cell::from(from), Cell::from(step))
 }
 
+// One number three times, pending and not stored.
 fn constant(alloc: Global, number: Cell) -> Result<Segment, NoMemory>
     ensures shape { IfOk result (λ s. s.shape ≡ 3 ∷ []) }
     ensures range { IfOk result NumbersInRange }
@@ -128,6 +134,7 @@ fn line_of(leaf: Option<Leaf>) -> Option<(Cell, Cell)> {
     }
 }
 
+// `-` of a progression is one; another function is not folded.
 #[test]
 fn folds_of_one(rt: HostRuntime) -> Result<(), Fail> {
     let odd = line(rt.alloc(), 3, 2)?;
@@ -153,6 +160,7 @@ const PAIRS: [(Dya, bool, Cell, Option<(Cell, Cell)>); 13] = [
     (Dya::Max, false, 4, None),
 ];
 
+// Sums, differences and products with a constant are progressions, at the ends of the safe range.
 #[test]
 fn folds_of_two(rt: HostRuntime) -> Result<(), Fail> {
     let odd = line(rt.alloc(), 3, 2)?;

@@ -1,3 +1,5 @@
+//! Selections against tables of descriptors.
+
 ghost use Rattle.std.specs.Prelude.{◌≡◌, ◌<◌, ◌≤◌, false, length, map, ◌++◌, IfOk};
 ghost use Rattle.drag_along.specs.Nodes.{functions_in};
 ghost use Rattle.apl_base.specs.Array.{IsShape, size_of};
@@ -18,12 +20,14 @@ use std::test::Fail;
 
 const ALL: Item = Item::All;
 
+// One place of an axis.
 fn at(i: u64) -> Item
     ensures { result ≡ Item.At i }
 {
     Item::At { i }
 }
 
+// A run of places of an axis.
 fn run(from: u64, step: i64, n: u64) -> Item
     ensures { result ≡ Item.Run from step n }
 {
@@ -88,6 +92,7 @@ fn pending(alloc: Global, of: &Shape) -> Result<Segment, Fail>
     Ok(join2(right, whole(alloc, of, true)?, Dya::Max, place)?)
 }
 
+// Whether a descriptor has just this base, these strides and these lengths.
 fn is(made: &Desc, base: Cell, strides: &[Cell], lengths: &[u64]) -> bool {
     made.base == base && made.strides.as_slice() == strides && made.shape.lengths() == lengths
 }
@@ -104,6 +109,7 @@ fn shows(s: &Segment, base: Cell, strides: &[Cell], lengths: &[u64]) -> bool {
     s.shape.lengths() == lengths && !s.may_fail
 }
 
+// Whether a selection gives every leaf this descriptor.
 fn selects(
     alloc: Global,
     of: &[u64],
@@ -126,6 +132,7 @@ fn selects(
     Ok(shows(&leaf, base, strides, lengths) && shows(&functions, base, strides, lengths))
 }
 
+// Whether a take gives this descriptor.
 fn takes(
     alloc: Global,
     of: &[u64],
@@ -144,6 +151,7 @@ fn takes(
     selects(alloc, of, &by, base, strides, lengths)
 }
 
+// The rows of the table of takes.
 #[test]
 fn take_rows(rt: HostRuntime) -> Result<(), Fail> {
     let alloc = rt.alloc();
@@ -161,6 +169,7 @@ fn take_rows(rt: HostRuntime) -> Result<(), Fail> {
     Ok(())
 }
 
+// Whether a drop gives this descriptor.
 fn skips(
     alloc: Global,
     of: &[u64],
@@ -179,6 +188,7 @@ fn skips(
     selects(alloc, of, &by, base, strides, lengths)
 }
 
+// The rows of the table of drops.
 #[test]
 fn skip_rows(rt: HostRuntime) -> Result<(), Fail> {
     let alloc = rt.alloc();
@@ -196,6 +206,7 @@ fn skip_rows(rt: HostRuntime) -> Result<(), Fail> {
     Ok(())
 }
 
+// Whether a reversal gives this descriptor.
 fn reverses(
     alloc: Global,
     of: &[u64],
@@ -211,6 +222,7 @@ fn reverses(
     selects(alloc, of, &by, base, strides, lengths)
 }
 
+// The rows of the table of reversals.
 #[test]
 fn reversal_rows(rt: HostRuntime) -> Result<(), Fail> {
     let alloc = rt.alloc();
@@ -219,6 +231,7 @@ fn reversal_rows(rt: HostRuntime) -> Result<(), Fail> {
     Ok(())
 }
 
+// Whether a transposition gives this descriptor.
 fn transposes(
     alloc: Global,
     of: &[u64],
@@ -238,6 +251,7 @@ fn transposes(
     selects(alloc, of, &by, base, strides, lengths)
 }
 
+// The rows of the table of transpositions.
 #[test]
 fn transposition_rows(rt: HostRuntime) -> Result<(), Fail> {
     let alloc = rt.alloc();
@@ -246,6 +260,7 @@ fn transposition_rows(rt: HostRuntime) -> Result<(), Fail> {
     Ok(())
 }
 
+// Whether a subscript gives this descriptor.
 fn indexes(
     alloc: Global,
     of: &[u64],
@@ -265,6 +280,7 @@ fn indexes(
     selects(alloc, of, &by, base, strides, lengths)
 }
 
+// The rows of the table of subscripts.
 #[test]
 fn subscript_rows(rt: HostRuntime) -> Result<(), Fail> {
     let alloc = rt.alloc();
@@ -283,6 +299,7 @@ fn subscript_rows(rt: HostRuntime) -> Result<(), Fail> {
     Ok(())
 }
 
+// Subscripts with every kind of item on every axis.
 #[test]
 fn rows_of_every_item(rt: HostRuntime) -> Result<(), Fail> {
     let alloc = rt.alloc();
@@ -326,6 +343,7 @@ fn a_row_of_many(rt: HostRuntime) -> Result<(), Fail> {
     Ok(())
 }
 
+// Whether an extension gives this descriptor.
 fn extends(
     alloc: Global,
     of: &[u64],
@@ -344,6 +362,7 @@ fn extends(
     selects(alloc, of, &by, base, strides, lengths)
 }
 
+// The rows of the table of extensions.
 #[test]
 fn extension_rows(rt: HostRuntime) -> Result<(), Fail> {
     let alloc = rt.alloc();
@@ -361,6 +380,7 @@ fn extension_rows(rt: HostRuntime) -> Result<(), Fail> {
     Ok(())
 }
 
+// Whether the left argument of an outer product gets this descriptor.
 fn joins_left(
     alloc: Global,
     of: &[u64],
@@ -379,6 +399,7 @@ fn joins_left(
     selects(alloc, of, &by, base, strides, lengths)
 }
 
+// Whether the right argument of an outer product gets this descriptor.
 fn joins_right(
     alloc: Global,
     of: &[u64],
@@ -397,6 +418,7 @@ fn joins_right(
     selects(alloc, of, &by, base, strides, lengths)
 }
 
+// The rows of the table of outer products.
 #[test]
 fn outer_rows(rt: HostRuntime) -> Result<(), Fail> {
     let alloc = rt.alloc();

@@ -1,3 +1,5 @@
+//! An owner that is made, held, written and let go.
+
 ghost use Rattle.std.specs.Prelude.{◌≡◌, [], All, IfOk};
 ghost use Rattle.apl_base.specs.Number.{IsNumber};
 

@@ -157,6 +157,7 @@ fn blanks(alloc: Global, count: usize, then: &[u8]) -> Result<Vec<u8>, Fail> {
     Ok(script)
 }
 
+// Each line of the table has these tokens, or stops at this column.
 #[test]
 fn each_rule_of_the_tokens(rt: HostRuntime) -> Result<(), Fail> {
     let alloc = rt.alloc();

@@ -276,6 +276,7 @@ fn first_headings_count(alloc: Global) -> Result<bool, Fail> {
     Ok(true)
 }
 
+// Each line of the table has this tree, or stops at this column.
 #[test]
 fn lines_have_their_trees(rt: HostRuntime) -> Result<(), Fail> {
     let alloc = rt.alloc();

@@ -1,3 +1,5 @@
+//! `A⊥B`: numbers from their digits.
+
 ghost use Rattle.std.specs.Prelude.{◌≡◌, ℕ, ◌+◌, ◌<◌, ◌*ℤ◌, ◌+ℤ◌, pos, [], slice_index_or, All, IfSome, Some, None, Ok};
 ghost use Rattle.std.specs.Option.{option_and_then};
 ghost use Rattle.apl_base.specs.Array.{size_of};
@@ -31,7 +33,8 @@ pub fn decode(a: &Leaf, b: &Leaf, store: &mut Store) -> Result<Leaf, MadeFault>
     requires left { IsLawfulLeaf store.old a.now }
     requires right { IsLawfulLeaf store.old b.now }
     ensures made { IsMadeBy
-        (Fetched store.old (size_of (leaf_shape a.now) + size_of (leaf_shape b.now))) store.old store.new
+        (Fetched store.old (size_of (leaf_shape a.now) + size_of (leaf_shape b.now)))
+        store.old store.new
         (language.decode (array_of store.old a.now) (array_of store.old b.now)) result }
     ensures store { IsStore store.new }
 {
@@ -65,7 +68,8 @@ pub fn decode(a: &Leaf, b: &Leaf, store: &mut Store) -> Result<Leaf, MadeFault>
 // The leaf of one number, an array without axes.
 fn number_leaf(number: Cell, alloc: Global, store: &mut Store) -> Result<Leaf, MadeFault>
     requires { IsNumber number }
-    ensures made { IsMadeBy (λ s. s ≡ store.old) store.old store.new (Ok (scalar Num number)) result }
+    ensures made { IsMadeBy (λ s. s ≡ store.old) store.old store.new
+        (Ok (scalar Num number)) result }
     ensures store { IsStore store.new }
 {
     // It tells the proof that the store is one.

@@ -1,3 +1,5 @@
+//! Digits of numbers in bases.
+
 ghost use Rattle.std.specs.Prelude.{◌≡◌, ◌*◌, map, length, All};
 ghost use Rattle.apl_base.specs.Number.{IsNumber};
 ghost use Rattle.apl_model.specs.Made.{carried};

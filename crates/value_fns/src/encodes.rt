@@ -1,3 +1,5 @@
+//! `A⊤B`: the digits of numbers.
+
 ghost use Rattle.std.specs.Prelude.{◌≡◌, ◌↔◌, ◌+◌, ◌*◌, ◌++◌, ◌≤◌, [], pos, int_lt, IfOk, IsOk, All, length, vec_len, vec_capacity};
 ghost use Rattle.std.specs.List.{list_any};
 ghost use Rattle.std.specs.Ordering.{int_eq};
@@ -29,7 +31,8 @@ pub fn encode(a: &Leaf, b: &Leaf, store: &mut Store) -> Result<Leaf, MadeFault>
     requires left { IsLawfulLeaf store.old a.now }
     requires right { IsLawfulLeaf store.old b.now }
     ensures made { IsMadeBy
-        (Fetched store.old (size_of (leaf_shape a.now) + size_of (leaf_shape b.now))) store.old store.new
+        (Fetched store.old (size_of (leaf_shape a.now) + size_of (leaf_shape b.now)))
+        store.old store.new
         (language.encode (array_of store.old a.now) (array_of store.old b.now)) result }
     ensures store { IsStore store.new }
 {
@@ -54,7 +57,8 @@ fn encode_shaped(a: &Leaf, b: &Leaf, shape: &Shape, store: &mut Store) -> Result
     requires right { IsLawfulLeaf store.old b.now }
     requires shape { shape.now ≡ leaf_shape a.now ++ leaf_shape b.now }
     ensures made { IsMadeBy
-        (Fetched store.old (size_of (leaf_shape a.now) + size_of (leaf_shape b.now))) store.old store.new
+        (Fetched store.old (size_of (leaf_shape a.now) + size_of (leaf_shape b.now)))
+        store.old store.new
         (shaped (array_of store.old a.now) (array_of store.old b.now)) result }
     ensures store { IsStore store.new }
 {
@@ -93,7 +97,8 @@ fn encode_leaves(a: &Leaf, b: &Leaf, shape: &Shape, store: &mut Store) -> Result
     requires values { All IsNumber (array_of store.old b.now).cells }
     requires shape { shape.now ≡ leaf_shape a.now ++ leaf_shape b.now }
     ensures made { IsMadeBy
-        (Fetched store.old (size_of (leaf_shape a.now) + size_of (leaf_shape b.now))) store.old store.new
+        (Fetched store.old (size_of (leaf_shape a.now) + size_of (leaf_shape b.now)))
+        store.old store.new
         (encoded (array_of store.old a.now) (array_of store.old b.now)) result }
     ensures store { IsStore store.new }
 {
@@ -130,7 +135,8 @@ fn encode_into(
     requires capacity { size_of shape.now ≤ vec_capacity cells }
     requires room { HasRoom store.old (size_of shape.now) }
     ensures made { IsMadeBy
-        (Fetched store.old (size_of (leaf_shape a.now) + size_of (leaf_shape b.now))) store.old store.new
+        (Fetched store.old (size_of (leaf_shape a.now) + size_of (leaf_shape b.now)))
+        store.old store.new
         (encoded (array_of store.old a.now) (array_of store.old b.now)) result }
     ensures store { IsStore store.new }
 {

@@ -1,3 +1,5 @@
+//! `⍋B` and `⍒B`: places in order.
+
 ghost use Rattle.std.specs.Prelude.{◌≡◌};
 ghost use Rattle.apl_base.specs.Array.{size_of};
 ghost use Rattle.array_store.specs.Stores.{IsStore};

@@ -1,3 +1,5 @@
+//! Kinds of arguments.
+
 ghost use Rattle.std.specs.Prelude.{◌≡◌, ◌==◌, ◌&&◌, not};
 ghost use Rattle.apl_base.specs.Scalar.{is_same_kind};
 ghost use Rattle.apl_model.specs.Whole.{is_char};

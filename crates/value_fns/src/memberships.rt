@@ -1,3 +1,5 @@
+//! `A⍳B` and `A∈B`.
+
 ghost use Rattle.std.specs.Prelude.{◌≡◌, ◌+◌, pos, map, int_lt};
 ghost use Rattle.apl_base.specs.Array.{size_of};
 ghost use Rattle.apl_base.specs.Scalar.{truth};
@@ -22,7 +24,8 @@ pub fn index_of(a: &Leaf, b: &Leaf, origin: Cell, store: &mut Store) -> Result<L
     requires right { IsLawfulLeaf store.old b.now }
     requires origin { IsOrigin origin }
     ensures made { IsMadeBy
-        (Fetched store.old (size_of (leaf_shape b.now) + size_of (leaf_shape a.now))) store.old store.new
+        (Fetched store.old (size_of (leaf_shape b.now) + size_of (leaf_shape a.now)))
+        store.old store.new
         (language.index_of origin (array_of store.old a.now) (array_of store.old b.now)) result }
     ensures store { IsStore store.new }
 {
@@ -44,7 +47,8 @@ pub fn member(a: &Leaf, b: &Leaf, store: &mut Store) -> Result<Leaf, MadeFault>
     requires left { IsLawfulLeaf store.old a.now }
     requires right { IsLawfulLeaf store.old b.now }
     ensures made { IsMadeBy
-        (Fetched store.old (size_of (leaf_shape a.now) + size_of (leaf_shape b.now))) store.old store.new
+        (Fetched store.old (size_of (leaf_shape a.now) + size_of (leaf_shape b.now)))
+        store.old store.new
         (language.member (array_of store.old a.now) (array_of store.old b.now)) result }
     ensures store { IsStore store.new }
 {

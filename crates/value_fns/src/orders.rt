@@ -1,3 +1,5 @@
+//! Elements with their places, in order.
+
 ghost use Rattle.std.specs.Prelude.{◌≡◌, ◌<◌, ◌≤◌, pos, neg_ℤ, map, length, All, IfOk, OnOk};
 ghost use Rattle.apl_base.specs.Number.{IsNumber};
 ghost use Rattle.apl_base.specs.Selection.{upward};

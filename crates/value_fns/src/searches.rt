@@ -1,3 +1,5 @@
+//! The first place of an element among others.
+
 ghost use Rattle.std.specs.Prelude.{◌≡◌, ◌+◌, ◌≤◌, [], pos, map, length, replicate, OnOk, vec_len, vec_capacity};
 ghost use Rattle.apl_base.specs.Array.{size_of};
 ghost use Rattle.array_store.specs.Stores.{IsStore};
@@ -75,7 +77,8 @@ fn find_cells(
     wanted: &mut [Cell],
 ) -> Result<(), NoMemory>
     requires { origin ≤ 1 }
-    ensures { OnOk result (wanted.new ≡ map (λ z. counted_from (pos origin) (first_place cells.now z)) wanted.old) }
+    ensures { OnOk result (wanted.new
+        ≡ map (λ z. counted_from (pos origin) (first_place cells.now z)) wanted.old) }
 {
     if cells.len() <= FEW || wanted.len() <= FEW {
         find_by_steps(cells, origin, wanted);
@@ -89,7 +92,8 @@ fn find_cells(
 // The same one by one.
 fn find_by_steps(cells: &[Cell], origin: u64, wanted: &mut [Cell])
     requires { origin ≤ 1 }
-    ensures { wanted.new ≡ map (λ z. counted_from (pos origin) (first_place cells.now z)) wanted.old }
+    ensures { wanted.new
+        ≡ map (λ z. counted_from (pos origin) (first_place cells.now z)) wanted.old }
 {
     for slot in wanted.iter_mut() {
         *slot = Cell::from(origin) + place_among(cells, *slot) as Cell;
@@ -100,7 +104,8 @@ fn find_by_steps(cells: &[Cell], origin: u64, wanted: &mut [Cell])
 fn find_by_index(cells: &[Cell], index: &[(Cell, u64)], origin: u64, wanted: &mut [Cell])
     requires index { IsIndex cells.now index.now }
     requires origin { origin ≤ 1 }
-    ensures { wanted.new ≡ map (λ z. counted_from (pos origin) (first_place cells.now z)) wanted.old }
+    ensures { wanted.new
+        ≡ map (λ z. counted_from (pos origin) (first_place cells.now z)) wanted.old }
 {
     for slot in wanted.iter_mut() {
         *slot = Cell::from(origin) + Cell::from(place_by_index(cells, index, *slot));

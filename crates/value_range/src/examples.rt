@@ -67,7 +67,8 @@ pub fn arithmetic_examples()
         ≡ always (pos 0) (pos 5) }
     ensures lesser { ranged2 dya.Min (numbers (negsuc 2) (pos 5)) (numbers (pos 0) (pos 4))
         ≡ always (negsuc 2) (pos 4) }
-    ensures residue { (ranged2 dya.Residue (numbers (negsuc 2) (negsuc 0)) (numbers (negsuc 8) (pos 9))
+    ensures residue { (ranged2 dya.Residue
+        (numbers (negsuc 2) (negsuc 0)) (numbers (negsuc 8) (pos 9))
         ≡ always (pos 0) (pos 2))
         × (ranged2 dya.Residue (numbers (pos 5) (pos 7)) (numbers (neg_ℤ M) M)
         ≡ always (pos 0) (pos 6))

@@ -1,3 +1,5 @@
+//! What is known of an argument, and of a value.
+
 use apl_base::{Interval, Kind};
 
 /// What is known of an argument: its kind, and what its cells lie in.

@@ -1,3 +1,5 @@
+//! Calls at the ends of where each function is safe.
+
 ghost use Rattle.apl_base.specs.Interval.{IsInterval};
 
 use super::*;

@@ -1,3 +1,5 @@
+//! The stack of pending expressions.
+
 ghost use Rattle.std.specs.Prelude.{◌≡◌, ℕ, ◌+◌, ◌<◌, ◌∷◌, ◌++◌, [], Some, length, ◌↔◌, IsTrue, slice_get, slice_set, MatchOption, OnOk, OnErr};
 ghost use Rattle.std.specs.List.{AllByRecursion};
 ghost use Rattle.drag_along.specs.Segments.{named_by, IsSegment};

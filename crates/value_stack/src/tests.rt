@@ -1,3 +1,5 @@
+//! A push with ample memory.
+
 ghost use Rattle.apl_base.specs.Number.{IsNumber};
 
 use crate::Stack;

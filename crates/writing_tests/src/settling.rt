@@ -1,3 +1,5 @@
+//! Entries settled, with every kind of fault.
+
 ghost use Rattle.std.specs.Prelude.{◌≡◌, ℕ, IfOk};
 ghost use Rattle.apl_base.specs.Number.{IsNumber};
 ghost use Rattle.array_store.specs.Stores.{StoreView};

@@ -1,3 +1,5 @@
+//! The names of a workspace as what holds leaves.
+
 ghost use Rattle.std.specs.Prelude.{◌≡◌, ℕ, ◌+◌, [], IfOk};
 ghost use Rattle.apl_base.specs.Number.{IsNumber};
 
@@ -19,10 +21,12 @@ pub struct Variables {
 impl Holder for Variables {
     ghost names = { λ v. v.names };
 
+    /// The leaf that the look-up finds.
     fn leaf_of(&self, name: &Name) -> Option<&Leaf> {
         self.names.leaf_of(name)
     }
 
+    /// Puts another leaf where the look-up finds one, and gives that one back.
     fn give(&mut self, name: &Name, leaf: Leaf) -> Leaf {
         self.names.give(name, leaf)
     }

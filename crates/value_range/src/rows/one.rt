@@ -29,6 +29,7 @@ impl RangeRow for PlusRow {
 
     const CHARACTERS: bool = false;
 
+    /// The rule at what the argument lies between.
     fn at(_left: Ends, right: Ends) -> Ranged {
         always(right.lo, right.hi)
     }
@@ -52,6 +53,7 @@ impl RangeRow for MinusRow {
 
     const CHARACTERS: bool = false;
 
+    /// The rule at what the argument lies between.
     fn at(_left: Ends, right: Ends) -> Ranged {
         always(-right.hi, -right.lo)
     }
@@ -75,6 +77,7 @@ impl RangeRow for SignRow {
 
     const CHARACTERS: bool = false;
 
+    /// The rule at what the argument lies between.
     fn at(_left: Ends, right: Ends) -> Ranged {
         always(right.lo.signum(), right.hi.signum())
     }
@@ -98,6 +101,7 @@ impl RangeRow for RecipRow {
 
     const CHARACTERS: bool = false;
 
+    /// The rule at what the argument lies between.
     fn at(_left: Ends, right: Ends) -> Ranged {
         let test = is_only(1, right.lo, right.hi) || is_only(-1, right.lo, right.hi);
         safe_where(test, right.lo, right.hi)
@@ -122,6 +126,7 @@ impl RangeRow for CeilRow {
 
     const CHARACTERS: bool = false;
 
+    /// The rule at what the argument lies between.
     fn at(_left: Ends, right: Ends) -> Ranged {
         always(right.lo, right.hi)
     }
@@ -145,6 +150,7 @@ impl RangeRow for FloorRow {
 
     const CHARACTERS: bool = false;
 
+    /// The rule at what the argument lies between.
     fn at(_left: Ends, right: Ends) -> Ranged {
         always(right.lo, right.hi)
     }
@@ -168,6 +174,7 @@ impl RangeRow for AbsRow {
 
     const CHARACTERS: bool = false;
 
+    /// The rule at what the argument lies between.
     fn at(_left: Ends, right: Ends) -> Ranged {
         always(low_of(right.lo, right.hi), most_of(right.lo, right.hi))
     }
@@ -191,6 +198,7 @@ impl RangeRow for NotRow {
 
     const CHARACTERS: bool = false;
 
+    /// The rule at what the argument lies between.
     fn at(_left: Ends, right: Ends) -> Ranged {
         safe_where(are_truths(right.lo, right.hi), 1 - right.hi, 1 - right.lo)
     }
@@ -214,6 +222,7 @@ impl RangeRow for FactRow {
 
     const CHARACTERS: bool = false;
 
+    /// The rule at what the argument lies between.
     fn at(_left: Ends, right: Ends) -> Ranged {
         if 0 <= right.lo && right.hi <= 32 {
             always(factorial(right.lo), factorial(right.hi))

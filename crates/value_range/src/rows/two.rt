@@ -31,6 +31,7 @@ impl RangeRow for AddRow {
 
     const CHARACTERS: bool = false;
 
+    /// The rule at what both arguments lie between.
     fn at(left: Ends, right: Ends) -> Ranged {
         safe_within(left.lo + right.lo, left.hi + right.hi)
     }
@@ -54,6 +55,7 @@ impl RangeRow for SubRow {
 
     const CHARACTERS: bool = false;
 
+    /// The rule at what both arguments lie between.
     fn at(left: Ends, right: Ends) -> Ranged {
         safe_within(left.lo - right.hi, left.hi - right.lo)
     }
@@ -77,6 +79,7 @@ impl RangeRow for MulRow {
 
     const CHARACTERS: bool = false;
 
+    /// The rule at what both arguments lie between.
     fn at(left: Ends, right: Ends) -> Ranged {
         let Some(p) = product(left.lo, right.lo) else {
             return not_safe();
@@ -112,6 +115,7 @@ impl RangeRow for DivRow {
 
     const CHARACTERS: bool = false;
 
+    /// The rule at what both arguments lie between.
     fn at(left: Ends, right: Ends) -> Ranged {
         if is_only(1, right.lo, right.hi) {
             always(left.lo, left.hi)
@@ -139,6 +143,7 @@ impl RangeRow for PowRow {
 
     const CHARACTERS: bool = false;
 
+    /// The rule at what both arguments lie between.
     fn at(left: Ends, right: Ends) -> Ranged {
         if left.lo < 0 || right.lo < 0 {
             return not_safe();
@@ -171,6 +176,7 @@ impl RangeRow for MaxRow {
 
     const CHARACTERS: bool = false;
 
+    /// The rule at what both arguments lie between.
     fn at(left: Ends, right: Ends) -> Ranged {
         always(left.lo.max(right.lo), left.hi.max(right.hi))
     }
@@ -194,6 +200,7 @@ impl RangeRow for MinRow {
 
     const CHARACTERS: bool = false;
 
+    /// The rule at what both arguments lie between.
     fn at(left: Ends, right: Ends) -> Ranged {
         always(left.lo.min(right.lo), left.hi.min(right.hi))
     }
@@ -217,6 +224,7 @@ impl RangeRow for ResidueRow {
 
     const CHARACTERS: bool = false;
 
+    /// The rule at what both arguments lie between.
     fn at(left: Ends, _right: Ends) -> Ranged {
         safe_where(
             !has_zero(left.lo, left.hi),
@@ -244,6 +252,7 @@ impl RangeRow for AndRow {
 
     const CHARACTERS: bool = false;
 
+    /// The rule at what both arguments lie between.
     fn at(left: Ends, right: Ends) -> Ranged {
         let test = are_truths(left.lo, left.hi) && are_truths(right.lo, right.hi);
         safe_where(test, 0, 1)
@@ -268,6 +277,7 @@ impl RangeRow for OrRow {
 
     const CHARACTERS: bool = false;
 
+    /// The rule at what both arguments lie between.
     fn at(left: Ends, right: Ends) -> Ranged {
         let test = are_truths(left.lo, left.hi) && are_truths(right.lo, right.hi);
         safe_where(test, 0, 1)
@@ -292,6 +302,7 @@ impl RangeRow for NandRow {
 
     const CHARACTERS: bool = false;
 
+    /// The rule at what both arguments lie between.
     fn at(left: Ends, right: Ends) -> Ranged {
         let test = are_truths(left.lo, left.hi) && are_truths(right.lo, right.hi);
         safe_where(test, 0, 1)
@@ -316,6 +327,7 @@ impl RangeRow for NorRow {
 
     const CHARACTERS: bool = false;
 
+    /// The rule at what both arguments lie between.
     fn at(left: Ends, right: Ends) -> Ranged {
         let test = are_truths(left.lo, left.hi) && are_truths(right.lo, right.hi);
         safe_where(test, 0, 1)
@@ -340,6 +352,7 @@ impl RangeRow for LtRow {
 
     const CHARACTERS: bool = false;
 
+    /// The rule at what both arguments lie between.
     fn at(_left: Ends, _right: Ends) -> Ranged {
         always(0, 1)
     }
@@ -363,6 +376,7 @@ impl RangeRow for LeRow {
 
     const CHARACTERS: bool = false;
 
+    /// The rule at what both arguments lie between.
     fn at(_left: Ends, _right: Ends) -> Ranged {
         always(0, 1)
     }
@@ -386,6 +400,7 @@ impl RangeRow for EqRow {
 
     const CHARACTERS: bool = true;
 
+    /// The rule at what both arguments lie between.
     fn at(_left: Ends, _right: Ends) -> Ranged {
         always(0, 1)
     }
@@ -409,6 +424,7 @@ impl RangeRow for GeRow {
 
     const CHARACTERS: bool = false;
 
+    /// The rule at what both arguments lie between.
     fn at(_left: Ends, _right: Ends) -> Ranged {
         always(0, 1)
     }
@@ -432,6 +448,7 @@ impl RangeRow for GtRow {
 
     const CHARACTERS: bool = false;
 
+    /// The rule at what both arguments lie between.
     fn at(_left: Ends, _right: Ends) -> Ranged {
         always(0, 1)
     }
@@ -455,6 +472,7 @@ impl RangeRow for NeRow {
 
     const CHARACTERS: bool = true;
 
+    /// The rule at what both arguments lie between.
     fn at(_left: Ends, _right: Ends) -> Ranged {
         always(0, 1)
     }

@@ -38,7 +38,7 @@ emit-returns-in_ok-emit-in-Two-2 t c =
 pub emit-returns-in_ok-emit-in-Index : goal.emit-returns-in_ok-emit-in-Index
 emit-returns-in_ok-emit-in-Index t c =
     let e = c.args.e.now in
-    let qs = c.in-Index.positions in
+    let qs = c.in-Index.read in
     let own = own_code (tree_of e) in
     behind _ c.args.code.now (expression_code (tree_of e)) c.emit-in-Index.new.code own c.put_own-in-Index.new.code c.put_own-in-Index.ensures
     (behind_two c.args.code.now c.emit_positions.new.code c.emit-in-Index.new.code (positions_code (positions_with qs)) (expression_code (tree_of c.in-Index.array)) (positions_code (positions_with c.as_slice.result.now)) (expression_code (tree_of c.get-in-Index.result.now)) own (expression_code (tree_of e))
