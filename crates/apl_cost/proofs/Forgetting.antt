@@ -28,7 +28,8 @@ use Rattle.apl_cost.specs.RangedEvaluation.{RangedState, forgotten, with_ranges,
 use Rattle.apl_cost.specs.Laws.{ExpressionsForget, StatementsForget, CallsForget, RunsForget, ImmediateForgets}
 
 -- two maps of options in a row are one
-option-map-map : {A B C : Type 0} (f : A → B) (g : B → C) (h : A → C) → ((a : A) → g (f a) ≡ h a) → (o : Option A) → option_map g (option_map f o) ≡ option_map h o
+option-map-map : {A B C : Type 0} (f : A → B) (g : B → C) (h : A → C) → ((a : A) → g (f a) ≡ h a) → (o : Option A) →
+    option_map g (option_map f o) ≡ option_map h o
 option-map-map f g h e None = refl
 option-map-map f g h e (Some a) = ap (λ x. Some x) (e a)
 
@@ -57,7 +58,8 @@ name-forgets : (name : List ℕ) (place : Place) (s : RangedState) →
     evaluation.needed place (look_up (forgotten s).variables name) (forgotten s)
     ≡ mapped_outcome forgotten array_of (needed place (option_map of_variable (look_up s.variables name)) s)
 name-forgets name place s =
-    ap (λ v. evaluation.needed place v (forgotten s)) (look_up_is_mapped RangedArray Array array_of s.variables name ∙ sym (variable-forgets (look_up s.variables name)))
+    ap (λ v. evaluation.needed place v (forgotten s)) (look_up_is_mapped RangedArray Array array_of s.variables name
+    ∙ sym (variable-forgets (look_up s.variables name)))
     ∙ needed-forgets place (option_map of_variable (look_up s.variables name)) s
 
 set-forgets : (name : List ℕ) (v : RangedArray) (s : RangedState) →
@@ -78,7 +80,8 @@ written-forgets (Some old) ps b a = refl
 
 write-forgets : (name : List ℕ) (old : Option RangedArray) (ps : List (Option Array)) (b : RangedArray) (place : Place) (answer : Answer) (s : RangedState) →
     and_then (at_place place answer (forgotten s)) (λ a t. done b.array (evaluation.with_name name a t))
-    ≡ mapped_outcome forgotten array_of (and_then (beside (written old ps b) s (at_place place answer)) (λ a t. done (ranged (write_source b) b.array) (with_name name a t)))
+    ≡ mapped_outcome forgotten array_of (and_then (beside (written old ps b) s (at_place place answer))
+    (λ a t. done (ranged (write_source b) b.array) (with_name name a t)))
 write-forgets name old ps b place (Ok a) s =
     ap (λ x. done b.array (evaluation.with_name name x (forgotten s))) (sym (written-forgets old ps b a))
     ∙ ap (λ t. done b.array t) (named-forgets name (written old ps b a) s)
@@ -88,7 +91,8 @@ replace-forgets : (name : List ℕ) (ps : List (Option RangedArray)) (b : Ranged
     evaluation.replace_name name (arrays_of ps) b.array place (forgotten s) ≡ mapped_outcome forgotten array_of (replace_name name ps b place s)
 replace-forgets name ps b place s =
     let old = look_up s.variables name in
-    ap (λ v. and_then (at_place place (replace_in (origin_of (forgotten s)) v (arrays_of ps) b.array) (forgotten s)) (λ a t. done b.array (evaluation.with_name name a t)))
+    ap (λ v. and_then (at_place place (replace_in (origin_of (forgotten s)) v (arrays_of ps) b.array) (forgotten s))
+    (λ a t. done b.array (evaluation.with_name name a t)))
     (look_up_is_mapped RangedArray Array array_of s.variables name)
     ∙ write-forgets name old (arrays_of ps) b place (replace_in (origin_of (forgotten s)) (option_map array_of old) (arrays_of ps) b.array) s
 
@@ -99,7 +103,8 @@ branch-forgets false true a place s = refl
 branch-forgets false false a place s = refl
 
 show-forgets : (v : Option RangedArray) (s : RangedState) →
-    evaluation.print_result (option_map array_of v) (forgotten s) ≡ mapped_flow forgotten (beside (λ (flow : Flow). flow) s (evaluation.print_result (option_map array_of v)))
+    evaluation.print_result (option_map array_of v) (forgotten s) ≡ mapped_flow forgotten
+    (beside (λ (flow : Flow). flow) s (evaluation.print_result (option_map array_of v)))
 show-forgets (Some v) s = refl
 show-forgets None s = refl
 
@@ -113,7 +118,8 @@ values-forget ranged_calls calls agree = record {
   reduce = λ f axis b place s. at-place-forgets (ranged other_source) (λ a. refl) place (product.reduce (origin_of (forgotten s)) f axis b.array) s;
   outer = λ f a b place s. at-place-forgets (ranged (scalar2_source f a b)) (λ a. refl) place (product.outer f a.array b.array) s;
   inner = λ f g a b place s. at-place-forgets (ranged other_source) (λ a. refl) place (product.inner f g a.array b.array) s;
-  index = λ a ps place s. at-place-forgets (ranged (subscript_source a (arrays_of ps))) (λ a. refl) place (places.subscript (origin_of (forgotten s)) a.array (arrays_of ps)) s;
+  index = λ a ps place s. at-place-forgets (ranged (subscript_source a (arrays_of ps))) (λ a. refl) place
+      (places.subscript (origin_of (forgotten s)) a.array (arrays_of ps)) s;
   assign = assign-forgets;
   replace = replace-forgets;
   calls = agree;
@@ -146,7 +152,8 @@ obey-forgets : (functions : List (List ℕ)) (c : Command) (s : RangedState) →
     obeyed functions c (forgotten s) ≡ forgotten (with_ranges (commanded c s.variables) (obeyed functions c (forgotten s)))
 obey-forgets functions Vars s = refl
 obey-forgets functions Fns s = refl
-obey-forgets functions (Erase names) s = ap (λ (e : Environment Array). record (forgotten s) { variables = e }) (erased_is_mapped RangedArray Array array_of names s.variables)
+obey-forgets functions (Erase names) s = ap (λ (e : Environment Array). record (forgotten s) { variables = e })
+    (erased_is_mapped RangedArray Array array_of names s.variables)
 obey-forgets functions (Origin o) s = refl
 
 pub states-forget : StatesAgree forgotten array_of of_ranged_states of_states
@@ -167,11 +174,13 @@ states-forget = record {
 
 pub expressions_forget : ExpressionsForget
 expressions_forget calls ranged_calls agree t s =
-    expressions_agree RangedState State RangedArray Array forgotten array_of (of_ranged ranged_calls) (of_arrays calls) (values-forget ranged_calls calls agree) t s
+    expressions_agree RangedState State RangedArray Array forgotten array_of (of_ranged ranged_calls) (of_arrays calls)
+    (values-forget ranged_calls calls agree) t s
 
 pub statements_forget : StatementsForget
 statements_forget calls ranged_calls agree t s =
-    statements_agree RangedState State RangedArray Array forgotten array_of (of_ranged ranged_calls) (of_arrays calls) (values-forget ranged_calls calls agree) t s
+    statements_agree RangedState State RangedArray Array forgotten array_of (of_ranged ranged_calls) (of_arrays calls)
+    (values-forget ranged_calls calls agree) t s
 
 meanings-forget : MeaningsAgree forgotten array_of (λ (p : Statement). p) ranged_flow statement_flow
 meanings-forget = record { agree = λ ranged_calls calls agree t s. statements_forget calls ranged_calls agree t s }
@@ -179,8 +188,10 @@ meanings-forget = record { agree = λ ranged_calls calls agree t s. statements_f
 pub calls_forget : CallsForget
 calls_forget definitions n =
     let routines = map routine definitions in
-    subst (λ rs. CallsAgree forgotten array_of (call_within of_ranged_states ranged_flow routines n) (call_within of_states statement_flow rs n)) (routines-same routines)
-    (functions_agree RangedState State RangedArray Array Statement Statement forgotten array_of (λ p. p) of_ranged_states of_states ranged_flow statement_flow states-forget meanings-forget routines n)
+    subst (λ rs. CallsAgree forgotten array_of (call_within of_ranged_states ranged_flow routines n) (call_within of_states statement_flow rs n))
+    (routines-same routines)
+    (functions_agree RangedState State RangedArray Array Statement Statement forgotten array_of
+    (λ p. p) of_ranged_states of_states ranged_flow statement_flow states-forget meanings-forget routines n)
 
 pub runs_forget : RunsForget
 runs_forget script items n =

@@ -1,14 +1,14 @@
 -- Footprints are only added, so those of a script's first items are the older ones of those of more items. A state is
 -- taken together with the proof that it has the footprints of an earlier one, and runs over such states agree with
 -- those over states alone.
-use Rattle.std.proofs.Common.{◌≡◌, ◌≤◌, ℕ, List, [], ◌∷◌, ◌++◌, map, Option, Some, None, refl, sym, ap, subst, ◌∙◌}
+use Rattle.std.proofs.Common.{◌≡◌, ◌≤◌, ℕ, true, false, List, [], ◌∷◌, ◌++◌, map, Option, Some, None, refl, sym, ap, subst, ◌∙◌}
 use Rattle.std.specs.List.{filter_map, AllByRecursion}
 use Rattle.std.proofs.lemmas.List.Elements.{filter_map-append}
 use Rattle.std.specs.Option.{option_map}
 use Rattle.apl_base.specs.declared.faults.ErrorKind.{ErrorKind}
 use Rattle.apl_base.specs.declared.faults.Place.{Place}
 use Rattle.apl_model.specs.declared.scripts.Header.{Header}
-use Rattle.apl_model.specs.Agreement.{mapped_outcome, mapped_step, mapped_routine, mapped_run, CallsAgree, ValuesAgree, StatesAgree, MeaningsAgree}
+use Rattle.apl_model.specs.Agreement.{mapped_outcome, mapped_flow, mapped_step, mapped_routine, mapped_run, CallsAgree, ValuesAgree, StatesAgree, MeaningsAgree}
 use Rattle.apl_model.specs.Call.{States, Routine, calls_of, on_turn}
 use Rattle.apl_model.specs.Immediate.{Ending, Run, Step, statement_step, command_step, routine, definitions_of, report, step_of, well, reported, beginning, run_steps, after_statement}
 use Rattle.apl_model.specs.Environment.{no_variables}
@@ -18,7 +18,7 @@ use Rattle.apl_model.specs.Tree.{Item, Statement}
 use Rattle.apl_model.proofs.Agreement.{statements_agree, runs_agree, routines-same, option-same, options-same}
 use Rattle.apl_cost.specs.Ranges.{RangedArray}
 use Rattle.apl_cost.specs.RangedEvaluation.{RangedState, with_ranges}
-use Rattle.apl_cost.specs.Footprint.{Measured, measured, valued, valued_from, resulted, written_value, moment, of_measured, of_measured_states, measured_flow, judged, ranged_arrays, result_shape1, result_shape2, reduction_shape, outer_shape, inner_shape, elements_named, measured_items, peak}
+use Rattle.apl_cost.specs.Footprint.{Measured, measured, valued, valued_from, resulted, written_value, moment, of_measured, of_measured_states, measured_flow, measure_of, entered_from, with_finished, finished_from, judged, ranged_arrays, result_shape1, result_shape2, reduction_shape, outer_shape, inner_shape, elements_named, measured_items, peak}
 use Rattle.apl_base.specs.Array.{size_of}
 use Rattle.apl_model.specs.Whole.{count}
 use Rattle.apl_cost.proofs.Measuring.{steps-same, at_most_peak}
@@ -102,13 +102,15 @@ module _ (base : List ℕ) where
     name = λ name place g. grown (alone.name name place g.0) (had-grows g.0 (ranged_arrays.name name place g.0.ranged) g.1);
     apply1 = λ f b place g. grown (alone.apply1 f b place g.0) (from-grows (result_shape1 f b.array) g.0 (ranged_arrays.apply1 f b place) g.1);
     apply2 = λ f a b place g. grown (alone.apply2 f a b place g.0) (from-grows (result_shape2 f a.array b.array) g.0 (ranged_arrays.apply2 f a b place) g.1);
-    reduce = λ f axis b place g. grown (alone.reduce f axis b place g.0) (from-grows (reduction_shape g.0.ranged.variables.origin axis b.array) g.0 (ranged_arrays.reduce f axis b place) g.1);
+    reduce = λ f axis b place g. grown (alone.reduce f axis b place g.0)
+        (from-grows (reduction_shape g.0.ranged.variables.origin axis b.array) g.0 (ranged_arrays.reduce f axis b place) g.1);
     outer = λ f a b place g. grown (alone.outer f a b place g.0) (from-grows (outer_shape a.array b.array) g.0 (ranged_arrays.outer f a b place) g.1);
     inner = λ f h a b place g. grown (alone.inner f h a b place g.0) (from-grows (inner_shape a.array b.array) g.0 (ranged_arrays.inner f h a b place) g.1);
     index = λ a ps place g. grown (alone.index a ps place g.0) (had-grows g.0 (ranged_arrays.index a ps place g.0.ranged) g.1);
     assign = λ name a g. grown (alone.assign name a g.0) (had-grows g.0 (ranged_arrays.assign name a g.0.ranged) g.1);
     replace = λ name ps b place g. grown (alone.replace name ps b place g.0)
-        (written-grows name (measured g.0 (ranged_arrays.replace name ps b place g.0.ranged)) (measured-grows g.0 (ranged_arrays.replace name ps b place g.0.ranged) g.1));
+        (written-grows name (measured g.0 (ranged_arrays.replace name ps b place g.0.ranged))
+        (measured-grows g.0 (ranged_arrays.replace name ps b place g.0.ranged) g.1));
     calls = λ f place left right g. grown-result (calls f place left right g);
     print = λ a g. grown (alone.print a g.0) (had-grows g.0 (ranged_arrays.print a g.0.ranged) g.1);
     need = λ place a g. grown (alone.need place a g.0) (measured-grows g.0 (ranged_arrays.need place a g.0.ranged) g.1);
@@ -118,7 +120,10 @@ module _ (base : List ℕ) where
 
   grown-calls-agree : (calls : CallsOf Grown RangedArray) (others : CallsOf Measured RangedArray) → CallsAgree state-of (λ v. v) calls others →
       CallsAgree state-of (λ v. v) (grown-values calls).calls (of_measured others).calls
-  grown-calls-agree calls others h = record { agree = λ f place left right g. ap resulted (h.agree f place left right g) ∙ result-same (calls f place left right g) }
+  grown-calls-agree calls others h = record {
+    agree = λ f place left right g. ap resulted (h.agree f place left right g)
+        ∙ result-same (calls f place left right g);
+  }
 
   grown-values-agree : (calls : CallsOf Grown RangedArray) (others : CallsOf Measured RangedArray) → CallsAgree state-of (λ v. v) calls others →
       ValuesAgree state-of (λ v. v) (grown-values calls) (of_measured others)
@@ -130,13 +135,16 @@ module _ (base : List ℕ) where
     reduce = λ f axis b place g. grown-same _ _;
     outer = λ f a b place g. grown-same _ _;
     inner = λ f k a b place g. grown-same _ _;
-    index = λ a ps place g. ap (λ qs. alone.index a qs place g.0) (options-same ps) ∙ grown-same (alone.index a ps place g.0) (had-grows g.0 (ranged_arrays.index a ps place g.0.ranged) g.1);
+    index = λ a ps place g. ap (λ qs. alone.index a qs place g.0) (options-same ps)
+        ∙ grown-same (alone.index a ps place g.0) (had-grows g.0 (ranged_arrays.index a ps place g.0.ranged) g.1);
     assign = λ name a g. grown-same (alone.assign name a g.0) (had-grows g.0 (ranged_arrays.assign name a g.0.ranged) g.1);
     replace = λ name ps b place g. ap (λ qs. alone.replace name qs b place g.0) (options-same ps) ∙ grown-same (alone.replace name ps b place g.0)
-        (written-grows name (measured g.0 (ranged_arrays.replace name ps b place g.0.ranged)) (measured-grows g.0 (ranged_arrays.replace name ps b place g.0.ranged) g.1));
+        (written-grows name (measured g.0 (ranged_arrays.replace name ps b place g.0.ranged))
+        (measured-grows g.0 (ranged_arrays.replace name ps b place g.0.ranged) g.1));
     calls = grown-calls-agree calls others h;
     print = λ a g. grown-same (alone.print a g.0) (had-grows g.0 (ranged_arrays.print a g.0.ranged) g.1);
-    need = λ place a g. ap (λ v. alone.need place v g.0) (option-same a) ∙ grown-same (alone.need place a g.0) (measured-grows g.0 (ranged_arrays.need place a g.0.ranged) g.1);
+    need = λ place a g. ap (λ v. alone.need place v g.0) (option-same a)
+        ∙ grown-same (alone.need place a g.0) (measured-grows g.0 (ranged_arrays.need place a g.0.ranged) g.1);
     branch = λ place a g. grown-same _ _;
     show = λ a g. ap (λ v. alone.show v g.0) (option-same a) ∙ grown-same (alone.show a g.0) (measured-grows g.0 (ranged_arrays.show a g.0.ranged) g.1);
   }
@@ -158,7 +166,8 @@ module _ (base : List ℕ) where
   enter-same : (header : Header) (labels : List (Option (List ℕ))) (left right : Option RangedArray) (m : Measured) →
       of_measured_states.enter header labels (option_map (λ v. v) left) (option_map (λ v. v) right) m ≡ of_measured_states.enter header labels left right m
   enter-same header labels left right m =
-      ap (λ l. of_measured_states.enter header labels l (option_map (λ v. v) right) m) (option-same left) ∙ ap (λ r. of_measured_states.enter header labels left r m) (option-same right)
+      ap (λ l. of_measured_states.enter header labels l (option_map (λ v. v) right) m) (option-same left)
+      ∙ ap (λ r. of_measured_states.enter header labels left r m) (option-same right)
 
   grown-states-agree : StatesAgree state-of (λ v. v) grown-states of_measured_states
   grown-states-agree = record {
@@ -174,18 +183,35 @@ module _ (base : List ℕ) where
     obey = λ functions c g. refl;
   }
 
+  -- a statement that is entered as ended
+  abbrev grown-entered : Statement → RangedState → Outcome Grown Flow → Outcome Grown Flow
+  grown-entered t s (done flow g) = done flow (with_finished (finished_from t s true) g.0, g.1)
+  grown-entered t s (fails kind place g) = fails kind place (with_finished (finished_from t s false) g.0, g.1)
+  grown-entered t s (spent g) = spent g
+
+  entered-same : (t : Statement) (s : RangedState) (o : Outcome Grown Flow) →
+      entered_from t s (mapped_flow state-of o) ≡ mapped_flow state-of (grown-entered t s o)
+  entered-same t s (done flow g) = refl
+  entered-same t s (fails kind place g) = refl
+  entered-same t s (spent g) = refl
+
   abbrev grown-flow : CallsOf Grown RangedArray → Statement → Grown → Outcome Grown Flow
-  grown-flow calls t g = flow_in (grown-values calls) t (judged t g.0, g.1)
+  grown-flow calls t g = grown-entered t g.0.ranged (flow_in (grown-values calls) t (judged t g.0, g.1))
 
   grown-meanings-agree : MeaningsAgree state-of (λ v. v) (λ (p : Statement). p) grown-flow measured_flow
   grown-meanings-agree = record {
     agree = λ calls others h t g.
-        statements_agree Grown Measured RangedArray RangedArray state-of (λ v. v) (grown-values calls) (of_measured others) (grown-values-agree calls others h) t (judged t g.0, g.1);
+        ap (entered_from t g.0.ranged)
+        (statements_agree Grown Measured RangedArray RangedArray state-of (λ v. v) (grown-values calls) (of_measured others)
+        (grown-values-agree calls others h) t (judged t g.0, g.1))
+        ∙ entered-same t g.0.ranged (flow_in (grown-values calls) t (judged t g.0, g.1));
   }
 
   -- a run from such a state leaves one
-  pub runs-grow : (routines : List (Routine Statement)) (functions : List (List ℕ)) (report_of : ErrorKind → Place → List ℕ) (steps : List (Step Statement)) (ending : Ending) (g : Grown) →
-      AreOlderOf base (run_steps of_measured_states (measured_flow (calls_of of_measured_states measured_flow routines)) functions report_of steps ending g.0).state.moments
+  pub runs-grow : (routines : List (Routine Statement)) (functions : List (List ℕ)) (report_of : ErrorKind → Place →
+      List ℕ) (steps : List (Step Statement)) (ending : Ending) (g : Grown) →
+      AreOlderOf base (run_steps of_measured_states (measured_flow
+      (calls_of of_measured_states measured_flow routines)) functions report_of steps ending g.0).state.moments
   runs-grow routines functions report_of steps ending g =
       let over : List (Routine Statement) → List (Step Statement) → Run Measured =
       λ rs ss. run_steps of_measured_states (measured_flow (calls_of of_measured_states measured_flow rs)) functions report_of ss ending g.0 in
@@ -208,12 +234,14 @@ module _ (routines : List (Routine Statement)) (functions : List (List ℕ)) (re
 
   after-grows : (next more : Ending → Measured → Run Measured) → ((e : Ending) (m : Measured) → AreOlderOf (next e m).state.moments (more e m).state.moments) →
       (e : Ending) (o : Outcome Measured Flow) →
-      AreOlderOf (after_statement of_measured_states flow-of functions report_of e o next).state.moments (after_statement of_measured_states flow-of functions report_of e o more).state.moments
+      AreOlderOf (after_statement of_measured_states flow-of functions report_of e o next).state.moments
+      (after_statement of_measured_states flow-of functions report_of e o more).state.moments
   after-grows next more h e (done a m) = h e m
   after-grows next more h e (fails kind place m) = h reported (of_measured_states.tell (report_of kind place) (of_measured_states.unwind m))
   after-grows next more h e (spent m) = ([], refl)
 
-  more-grow : (steps more : List (Step Statement)) (e : Ending) (m : Measured) → AreOlderOf (ran steps e m).state.moments (ran (steps ++ more) e m).state.moments
+  more-grow : (steps more : List (Step Statement)) (e : Ending) (m : Measured) →
+      AreOlderOf (ran steps e m).state.moments (ran (steps ++ more) e m).state.moments
   more-grow [] more e m = runs-grow m.moments routines functions report_of more e (m, ([], refl))
   more-grow (statement_step line t ∷ steps) more e m =
       after-grows (ran steps) (ran (steps ++ more)) (more-grow steps more) e (on_turn of_measured_states line (flow-of t) m)
@@ -224,13 +252,14 @@ first_items script items more n =
     let definitions = definitions_of script.items in
     let functions = map (λ d. d.header.f) definitions in
     let routines = map routine definitions in
-    let start : Measured = record { ranged = with_ranges no_variables (beginning n); progress = []; moments = [] } in
-    subst (λ ss. AreOlderOf (ran routines functions (report script) (filter_map step_of items) well start).state.moments (ran routines functions (report script) ss well start).state.moments)
+    let start : Measured = measure_of (with_ranges no_variables (beginning n)) in
+    subst (λ ss. AreOlderOf (ran routines functions (report script) (filter_map step_of items) well start).state.moments
+    (ran routines functions (report script) ss well start).state.moments)
     (sym (filter_map-append step_of items more))
     (more-grow routines functions (report script) (filter_map step_of items) (filter_map step_of more) well start)
 
 -- what is so of all is so of the older ones
-older-all : (P : ℕ → Type 0) (newer older : List ℕ) → AllByRecursion P (newer ++ older) → AllByRecursion P older
+pub older-all : (P : ℕ → Type 0) (newer older : List ℕ) → AllByRecursion P (newer ++ older) → AllByRecursion P older
 older-all P [] older all = all
 older-all P (k ∷ newer) older all = older-all P newer older all.1
 

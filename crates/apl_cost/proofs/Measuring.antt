@@ -4,17 +4,17 @@ use Rattle.std.specs.List.{filter_map, AllByRecursion}
 use Rattle.std.specs.Option.{option_map}
 use Rattle.apl_base.specs.Array.{size_of}
 use Rattle.apl_model.specs.declared.scripts.Header.{Header}
-use Rattle.apl_model.specs.Agreement.{mapped_outcome, mapped_step, mapped_routine, CallsAgree, ValuesAgree, StatesAgree, MeaningsAgree}
+use Rattle.apl_model.specs.Agreement.{mapped_outcome, mapped_flow, mapped_step, mapped_routine, CallsAgree, ValuesAgree, StatesAgree, MeaningsAgree}
 use Rattle.apl_model.specs.Call.{calls_of}
 use Rattle.apl_model.specs.Immediate.{Step, statement_step, command_step, routine, definitions_of, report, step_of, well, beginning, run_steps}
 use Rattle.apl_model.specs.Environment.{no_variables}
-use Rattle.apl_model.specs.Order.{CallsOf}
-use Rattle.apl_model.specs.Outcome.{Outcome, done, fails, spent}
+use Rattle.apl_model.specs.Order.{CallsOf, flow_in}
+use Rattle.apl_model.specs.Outcome.{Outcome, done, fails, spent, Flow}
 use Rattle.apl_model.specs.Tree.{Statement}
 use Rattle.apl_model.proofs.Agreement.{statements_agree, runs_agree, routines-same, option-same, options-same}
 use Rattle.apl_cost.specs.Ranges.{RangedArray}
 use Rattle.apl_cost.specs.RangedEvaluation.{RangedState, with_ranges, with_call, of_ranged, of_ranged_states, ranged_flow}
-use Rattle.apl_cost.specs.Footprint.{Measured, measured, valued, valued_from, resulted, written_value, moment, of_measured, of_measured_states, measured_flow, judged, ranged_arrays, result_shape1, result_shape2, reduction_shape, outer_shape, inner_shape, greatest, footprints}
+use Rattle.apl_cost.specs.Footprint.{Measured, measured, valued, valued_from, resulted, written_value, moment, of_measured, of_measured_states, measured_flow, measure_of, entered_from, judged, ranged_arrays, result_shape1, result_shape2, reduction_shape, outer_shape, inner_shape, greatest, footprints}
 use Rattle.apl_cost.specs.Laws.{MeasuresForget, FootprintsAreAtMostPeak}
 
 -- the state of ranged evaluation
@@ -40,7 +40,8 @@ written-forgets name (done v m) = refl
 written-forgets name (fails kind place m) = refl
 written-forgets name (spent m) = refl
 
-resulted-forgets : (o : Outcome Measured (Option RangedArray)) → mapped_outcome unmeasured (option_map (λ v. v)) o ≡ mapped_outcome unmeasured (option_map (λ v. v)) (resulted o)
+resulted-forgets : (o : Outcome Measured (Option RangedArray)) →
+    mapped_outcome unmeasured (option_map (λ v. v)) o ≡ mapped_outcome unmeasured (option_map (λ v. v)) (resulted o)
 resulted-forgets (done (Some v) m) = refl
 resulted-forgets (done None m) = refl
 resulted-forgets (fails kind place m) = refl
@@ -73,7 +74,8 @@ values-forget calls others h = record {
   index = λ a ps place m. ap (λ qs. ranged_arrays.index a qs place m.ranged) (options-same ps) ∙ had-forgets m (ranged_arrays.index a ps place m.ranged);
   assign = λ name a m. had-forgets m (ranged_arrays.assign name a m.ranged);
   replace = λ name ps b place m. ap (λ qs. ranged_arrays.replace name qs b place m.ranged) (options-same ps)
-      ∙ measured-forgets m (ranged_arrays.replace name ps b place m.ranged) ∙ written-forgets name (measured m (ranged_arrays.replace name ps b place m.ranged));
+      ∙ measured-forgets m (ranged_arrays.replace name ps b place m.ranged)
+      ∙ written-forgets name (measured m (ranged_arrays.replace name ps b place m.ranged));
   calls = calls-forget calls others h;
   print = λ a m. had-forgets m (ranged_arrays.print a m.ranged);
   need = λ place a m. ap (λ v. ranged_arrays.need place v m.ranged) (option-same a) ∙ measured-forgets m (ranged_arrays.need place a m.ranged);
@@ -84,7 +86,8 @@ values-forget calls others h = record {
 enter-forgets : (header : Header) (labels : List (Option (List ℕ))) (left right : Option RangedArray) (m : Measured) →
     with_call header labels (option_map (λ v. v) left) (option_map (λ v. v) right) m.ranged ≡ with_call header labels left right m.ranged
 enter-forgets header labels left right m =
-    ap (λ l. with_call header labels l (option_map (λ v. v) right) m.ranged) (option-same left) ∙ ap (λ r. with_call header labels left r m.ranged) (option-same right)
+    ap (λ l. with_call header labels l (option_map (λ v. v) right) m.ranged) (option-same left)
+    ∙ ap (λ r. with_call header labels left r m.ranged) (option-same right)
 
 pub states-forget : StatesAgree unmeasured (λ v. v) of_measured_states of_ranged_states
 states-forget = record {
@@ -100,10 +103,18 @@ states-forget = record {
   obey = λ functions c m. refl;
 }
 
+-- a statement that is entered as ended
+entered-forgets : (t : Statement) (s : RangedState) (o : Outcome Measured Flow) → mapped_flow unmeasured o ≡ mapped_flow unmeasured (entered_from t s o)
+entered-forgets t s (done flow m) = refl
+entered-forgets t s (fails kind place m) = refl
+entered-forgets t s (spent m) = refl
+
 pub meanings-forget : MeaningsAgree unmeasured (λ v. v) (λ (p : Statement). p) measured_flow ranged_flow
 meanings-forget = record {
   agree = λ calls others h t m.
-      statements_agree Measured RangedState RangedArray RangedArray unmeasured (λ v. v) (of_measured calls) (of_ranged others) (values-forget calls others h) t (judged t m);
+      statements_agree Measured RangedState RangedArray RangedArray unmeasured (λ v. v) (of_measured calls) (of_ranged others)
+      (values-forget calls others h) t (judged t m)
+      ∙ entered-forgets t m.ranged (flow_in (of_measured calls) t (judged t m));
 }
 
 step-same : (step : Step Statement) → mapped_step (λ (p : Statement). p) step ≡ step
@@ -120,10 +131,13 @@ measures_forget script items n =
     let functions = map (λ d. d.header.f) definitions in
     let routines = map routine definitions in
     let steps = filter_map step_of items in
-    let start : Measured = record { ranged = with_ranges no_variables (beginning n); progress = []; moments = [] } in
-    ap (λ rs. run_steps of_ranged_states (ranged_flow (calls_of of_ranged_states ranged_flow rs)) functions (report script) steps well start.ranged) (sym (routines-same routines))
-    ∙ ap (λ ss. run_steps of_ranged_states (ranged_flow (calls_of of_ranged_states ranged_flow (map (mapped_routine (λ (p : Statement). p)) routines))) functions (report script) ss well start.ranged) (sym (steps-same steps))
-    ∙ runs_agree Measured RangedState RangedArray RangedArray Statement Statement unmeasured (λ v. v) (λ p. p) of_measured_states of_ranged_states measured_flow ranged_flow
+    let start : Measured = measure_of (with_ranges no_variables (beginning n)) in
+    ap (λ rs. run_steps of_ranged_states (ranged_flow (calls_of of_ranged_states ranged_flow rs)) functions (report script) steps well start.ranged)
+    (sym (routines-same routines))
+    ∙ ap (λ ss. run_steps of_ranged_states (ranged_flow (calls_of of_ranged_states ranged_flow
+    (map (mapped_routine (λ (p : Statement). p)) routines))) functions (report script) ss well start.ranged) (sym (steps-same steps))
+    ∙ runs_agree Measured RangedState RangedArray RangedArray Statement Statement unmeasured (λ v. v)
+    (λ p. p) of_measured_states of_ranged_states measured_flow ranged_flow
     states-forget meanings-forget routines functions (report script) steps well start
 
 -- ---- the greatest of a list

@@ -30,10 +30,15 @@ values-of : {X : Type 0} (f : X → Option Elem) (range : Interval) (xs : List X
 values-of f range [] h = record { values = []; defined = refl; inside = tt }
 values-of f range (x ∷ xs) h =
     let rest = values-of f range xs h.1 in
-    record { values = h.0.0 ∷ rest.values; defined = all_defined-cons (f x) (map f xs) h.0.0 rest.values h.0.1 rest.defined; inside = (h.0.2.cell, rest.inside) }
+    record {
+      values = h.0.0 ∷ rest.values;
+      defined = all_defined-cons (f x) (map f xs) h.0.0 rest.values h.0.1 rest.defined;
+      inside = (h.0.2.cell, rest.inside);
+    }
 
 -- then the whole has a value
-whole : {X : Type 0} (f : X → Option Elem) (range : Interval) (ns : List ℕ) (xs : List X) → HasValues f range xs → HasValueIn (or_domain (all_defined (map f xs)) (numbers ns)) ns range
+whole : {X : Type 0} (f : X → Option Elem) (range : Interval) (ns : List ℕ) (xs : List X) → HasValues f range xs →
+    HasValueIn (or_domain (all_defined (map f xs)) (numbers ns)) ns range
 whole f range ns xs h = record {
   array = numbers ns h.values;
   made = ap (λ o. or_domain o (numbers ns)) h.defined;
@@ -79,7 +84,8 @@ safe_functions_of_one f b i lies safe =
     let range = (ranged1 f side).range in
     whole (scalar1 f) range b.shape (elements b)
     (values-of (scalar1 f) range (elements b)
-    (each-implies (IsMember side) (λ e. GivesWithin range (scalar1 f e)) (λ e m. ranged1-sound f side lies.lawful safe e m) (elements b) (members b.kind i b.cells lies.cells)))
+    (each-implies (IsMember side) (λ e. GivesWithin range (scalar1 f e)) (λ e m. ranged1-sound f side lies.lawful safe e m) (elements b)
+    (members b.kind i b.cells lies.cells)))
 
 single-count : (a : Array) (i : Interval) → LiesIn i a → IsTrue (is_single a) → length a.cells ≡ 1
 single-count a i lies single = lies.count ∙ (let e : size_of a.shape ≡ 1 = grind (arith, single) in e)

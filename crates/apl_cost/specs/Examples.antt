@@ -13,8 +13,8 @@ use Rattle.apl_model.specs.declared.functions.MonFn.TheVariants as one
 use Rattle.apl_model.specs.declared.scripts.Command.TheVariants.{Erase, Origin}
 use Rattle.apl_model.specs.Environment.{no_variables, look_up}
 use Rattle.apl_model.specs.Immediate.{beginning}
-use Rattle.apl_model.specs.Tree.{Tree, Item, Script, parenthesis, monadic, dyadic, reduction, subscript, given, expression, statement_item, elided, command_item}
-use Rattle.apl_model_examples.specs.Words.{script, at, number, numbers, integers, negative, name, sets, writes, positions, calls, header, definition, body_line, unlabelled, label}
+use Rattle.apl_model.specs.Tree.{Tree, Item, Script, parenthesis, monadic, dyadic, reduction, subscript, outer_product, output, branch, given, expression, statement_item, elided, command_item}
+use Rattle.apl_model_examples.specs.Words.{script, at, text, number, numbers, integers, negative, name, sets, writes, positions, calls, header, definition, body_line, unlabelled, label}
 use Rattle.apl_cost.specs.RangedEvaluation.{RangedState, with_ranges, with_name, ranged_items}
 use Rattle.apl_cost.specs.Plain.{plain_work}
 use Rattle.apl_cost.specs.Footprint.{footprints, peak}
@@ -88,7 +88,8 @@ NoWorkOfASum = plain_work nothing_set (expression (reduction dya.Add axis.Last f
 -- `5↑⌽A×2`, where A is a million numbers of at most 1000000, whichever they are
 abbrev pub WorkOverAName : Type 0
 WorkOverAName = (cells : List ℤ) →
-    plain_work (bound_numbers "A" 1000000 cells (Span (pos 3) (pos 1000000))) (expression (taken (n_of 5) (turned_round (times (name "A" (at 1 1)) (n_of 2))))) ≡ Some 36
+    plain_work (bound_numbers "A" 1000000 cells (Span (pos 3) (pos 1000000)))
+    (expression (taken (n_of 5) (turned_round (times (name "A" (at 1 1)) (n_of 2))))) ≡ Some 36
 
 -- 64 functions, and 65
 abbrev pub WorkOfSixtyFour : Type 0
@@ -131,7 +132,7 @@ NoWorkOfPadding = (cells : List ℤ) →
 
 -- the interval of A after these items of a script
 abbrev pub interval_after : Script → List Item → Option Interval
-interval_after s items = option_map (λ v. v.kept) (look_up (ranged_items s items 9).state.variables (codes "A"))
+interval_after s items = option_map (λ v. v.kept) (look_up (ranged_items s items 99).state.variables (codes "A"))
 
 -- `A←2×⍳3`
 abbrev pub a_is_set : Item
@@ -251,10 +252,110 @@ NoIntervalOfAnErasedName = interval_after called_script (a_is_called ∷ a_is_tu
 abbrev pub IntervalFromOriginZero : Type 0
 IntervalFromOriginZero = interval_after called_script (a_is_called ∷ a_is_turned ∷ a_is_erased ∷ the_origin_is_0 ∷ a_counts ∷ []) ≡ Some (Span (pos 0) (pos 2))
 
+-- ---- further intervals
+
+-- `A[⍳0]←9`
+abbrev pub a_keeps_all : Item
+a_keeps_all = statement_item 2 (expression (writes "A" (positions (given (up_to 0) ∷ [])) (number 9 (at 2 6)) (at 2 2)))
+
+-- after `A←2×⍳3` and `A[⍳0]←9`: nothing is selected, so the interval stays
+abbrev pub IntervalWhereNothingIsSelected : Type 0
+IntervalWhereNothingIsSelected = interval_after (script [] []) (a_is_set ∷ a_keeps_all ∷ []) ≡ Some (Span (pos 2) (pos 6))
+
+-- `∇F`, `A[1]←0`, `→L`, `L:A[3]←8`
+abbrev pub a_function_that_writes : Item
+a_function_that_writes =
+    definition 1 5 (header None None "F" None [])
+    (body_line 2 unlabelled (expression (writes "A" (positions (given (n_of 1) ∷ [])) (n_of 0) (at 2 2)))
+    ∷ body_line 3 unlabelled (branch (name "L" (at 3 2)) (at 3 1))
+    ∷ body_line 4 (label "L") (expression (writes "A" (positions (given (n_of 3) ∷ [])) (n_of 8) (at 4 4))) ∷ [])
+
+-- `F`
+abbrev pub f_is_called : Item
+f_is_called = statement_item 7 (expression (calls "F" elided elided (at 7 1)))
+
+-- a call that writes the global A, line by line
+abbrev pub IntervalOfAWriteInACall : Type 0
+IntervalOfAWriteInACall = interval_after (script [] (a_function_that_writes ∷ a_is_set ∷ f_is_called ∷ [])) (a_is_set ∷ f_is_called ∷ []) ≡ Some
+    (Span (pos 0) (pos 8))
+
+-- `A←(⍳3)∘.×⍳2`
+abbrev pub IntervalOfAnOuterProduct : Type 0
+IntervalOfAnOuterProduct =
+    interval_after (script [] []) (statement_item 1 (expression
+    (sets "A" (outer_product dya.Mul (parenthesis (up_to 3) (at 1 1)) (up_to 2) (at 1 1)) (at 1 1))) ∷ [])
+    ≡ Some (Span (pos 1) (pos 6))
+
+-- `A←'AZ'`: characters lie in an interval of their codes
+abbrev pub IntervalOfAText : Type 0
+IntervalOfAText = interval_after (script [] []) (statement_item 1 (expression (sets "A" (text "AZ" (at 1 1)) (at 1 1))) ∷ []) ≡ Some (Span (pos 65) (pos 90))
+
 -- ---- a name as position
 
 -- `A[I]`, where I is 2 4 6
 abbrev pub WorkByAName : Type 0
 WorkByAName = (cells : List ℤ) →
-    plain_work (with_name (codes "I") (record { array = record { kind = Num; shape = 3 ∷ []; cells = pos 2 ∷ pos 4 ∷ pos 6 ∷ [] }; interval = Span (pos 2) (pos 6); kept = Span (pos 2) (pos 6) })
+    plain_work (with_name (codes "I") (record {
+      array = record { kind = Num; shape = 3 ∷ []; cells = pos 2 ∷ pos 4 ∷ pos 6 ∷ [] };
+      interval = Span (pos 2) (pos 6);
+      kept = Span (pos 2) (pos 6);
+    })
     (bound_numbers "A" 9 cells (Span (pos 0) (pos 9)))) (expression (by_positions (name "I" (at 1 1)))) ≡ Some 24
+
+-- `A[I]`, where I is 2 3 5
+abbrev pub NoWorkByAnotherName : Type 0
+NoWorkByAnotherName = (cells : List ℤ) →
+    plain_work (with_name (codes "I") (record {
+      array = record { kind = Num; shape = 3 ∷ []; cells = pos 2 ∷ pos 3 ∷ pos 5 ∷ [] };
+      interval = Span (pos 2) (pos 5);
+      kept = Span (pos 2) (pos 5);
+    })
+    (bound_numbers "A" 9 cells (Span (pos 0) (pos 9)))) (expression (by_positions (name "I" (at 1 1)))) ≡ None
+
+-- `A[2×⍳4]`: the positions' work is counted by itself, 4×(1+2+3) and 1 and that of `⍳`
+abbrev pub WorkByNumbers : Type 0
+WorkByNumbers = (cells : List ℤ) →
+    plain_work (bound_numbers "A" 9 cells (Span (pos 0) (pos 9))) (expression (by_positions (times (n_of 2) (up_to 4)))) ≡ Some 46
+
+-- `A←(⍳1000000)⌈3`, of a million numbers
+abbrev pub WorkOfAMillion : Type 0
+WorkOfAMillion =
+    plain_work nothing_set (expression (sets "A" (dyadic (two.Scalar dya.Max) (parenthesis (up_to 1000000) (at 1 1)) (n_of 3) (at 1 1))
+    (at 1 1))) ≡ Some 6000006
+
+-- `B←⌽A`, where A is three numbers
+abbrev pub WorkOfATurnedName : Type 0
+WorkOfATurnedName = (cells : List ℤ) →
+    plain_work (bound_numbers "A" 3 cells (Span (pos 1) (pos 3))) (expression (sets "B" (turned_round (name "A" (at 1 1))) (at 1 1))) ≡ Some 12
+
+-- `⎕←1` is not plain
+abbrev pub NoWorkOfAnOutput : Type 0
+NoWorkOfAnOutput = plain_work nothing_set (expression (output (n_of 1) (at 1 1))) ≡ None
+
+-- `1↓5`: a scalar is first given an axis of length 1
+abbrev pub WorkOfADroppedScalar : Type 0
+WorkOfADroppedScalar = plain_work nothing_set (expression (dyadic two.Skip (n_of 1) (n_of 5) (at 1 1))) ≡ Some 6
+
+-- `0 0↓5`
+abbrev pub WorkOfAScalarWithAxes : Type 0
+WorkOfAScalarWithAxes = plain_work nothing_set (expression (dyadic two.Skip (numbers (0 ∷ 0 ∷ []) (at 1 1)) (n_of 5) (at 1 1))) ≡ Some 15
+
+-- ---- functions in arguments, and two positions
+
+-- 32 functions in the count and 32 in what is taken: `(-..-1)↑-..-1`
+abbrev pub WorkOfFunctionsInArguments : Type 0
+WorkOfFunctionsInArguments = plain_work nothing_set (expression (taken (negated 32) (negated 32))) ≡ Some 74
+
+-- 33 of each are too many
+abbrev pub NoWorkOfFunctionsInArguments : Type 0
+NoWorkOfFunctionsInArguments = plain_work nothing_set (expression (taken (negated 33) (negated 33))) ≡ None
+
+-- `A[2;1 2]`, where A has two rows of three numbers: each position counts by its own work
+abbrev pub WorkByTwoPositions : Type 0
+WorkByTwoPositions = (cells : List ℤ) →
+    plain_work (with_name (codes "A") (record {
+      array = record { kind = Num; shape = 2 ∷ 3 ∷ []; cells = cells };
+      interval = Span (pos 0) (pos 9);
+      kept = Span (pos 0) (pos 9);
+    }) nothing_set)
+    (expression (subscript (name "A" (at 1 1)) (positions (given (n_of 2) ∷ given (numbers (1 ∷ 2 ∷ []) (at 1 1)) ∷ [])) (at 1 1))) ≡ Some 23

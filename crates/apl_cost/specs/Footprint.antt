@@ -1,6 +1,6 @@
 -- The footprint of a run: how many elements its variables and its statements in progress have at each moment. It is
 -- carried along in ranged evaluation.
-use Rattle.std.specs.Prelude.{ℕ, ◌+◌, ◌-◌, ◌==◌, min, max, ℤ, ◌-ℤ◌, unsigned_abs, ◌||◌, List, [], ◌∷◌, ◌++◌, map, length, remove, sum_by, unwrap_or, Option, Some, None, Result, Ok, Err, if◌then◌else◌}
+use Rattle.std.specs.Prelude.{ℕ, ◌+◌, ◌-◌, ◌==◌, min, max, ℤ, ◌-ℤ◌, unsigned_abs, Bool, true, false, ◌||◌, List, [], ◌∷◌, ◌++◌, map, length, remove, sum_by, unwrap_or, Option, Some, None, Result, Ok, Err, if◌then◌else◌}
 use Rattle.std.specs.List.{filter_map}
 use Rattle.std.specs.Option.{option_map}
 use Rattle.apl_base.specs.declared.faults.ErrorKind.{ErrorKind}
@@ -25,18 +25,33 @@ use Rattle.apl_model.specs.Whole.{count, rank, is_extendable, is_shape}
 use Rattle.apl_cost.specs.Ranges.{RangedArray}
 use Rattle.apl_cost.specs.RangedEvaluation.{RangedState, with_ranges, of_ranged, of_ranged_states}
 use Rattle.apl_cost.specs.Plain.{plain_work, is_axis}
+use Rattle.apl_cost.specs.Sharing.{only_shares}
 
 -- a statement in progress: the elements of all values and new arrays that it has had, and its work where it is plain
 pub record Progress : Type 0 where
   pub had : ℕ
   pub work : Option ℕ
 
--- a state of ranged evaluation, the statements in progress, the innermost first, and the footprints at the moments so
--- far, the newest first
+-- a statement that ended: its number among the statements begun, its work where it began, whether it only shares
+-- there, and whether it ended without error
+pub record Finished : Type 0 where
+  pub statement : Statement
+  pub number : ℕ
+  pub work : Option ℕ
+  pub shares : Bool
+  pub well : Bool
+
+-- a state of ranged evaluation, the statements in progress, the innermost first, the footprints at the moments so far,
+-- the newest first, and the statements that ended, in that order
 pub record Measured : Type 0 where
   pub ranged : RangedState
   pub progress : List Progress
   pub moments : List ℕ
+  pub finished : List Finished
+
+-- nothing is in progress yet
+abbrev pub measure_of : RangedState → Measured
+measure_of s = record { ranged = s; progress = []; moments = []; finished = [] }
 
 -- ---- the footprint
 
@@ -161,7 +176,8 @@ of_measured calls = record {
   name = λ name place m. valued (measured m (ranged_arrays.name name place m.ranged));
   apply1 = λ f b place m. valued_from (result_shape1 f b.array) m (λ n. measured n (ranged_arrays.apply1 f b place n.ranged));
   apply2 = λ f a b place m. valued_from (result_shape2 f a.array b.array) m (λ n. measured n (ranged_arrays.apply2 f a b place n.ranged));
-  reduce = λ f axis b place m. valued_from (reduction_shape m.ranged.variables.origin axis b.array) m (λ n. measured n (ranged_arrays.reduce f axis b place n.ranged));
+  reduce = λ f axis b place m. valued_from (reduction_shape m.ranged.variables.origin axis b.array) m
+      (λ n. measured n (ranged_arrays.reduce f axis b place n.ranged));
   outer = λ f a b place m. valued_from (outer_shape a.array b.array) m (λ n. measured n (ranged_arrays.outer f a b place n.ranged));
   inner = λ f g a b place m. valued_from (inner_shape a.array b.array) m (λ n. measured n (ranged_arrays.inner f g a b place n.ranged));
   index = λ a ps place m. valued (measured m (ranged_arrays.index a ps place m.ranged));
@@ -213,11 +229,28 @@ of_measured_states = record {
   obey = λ functions c m. with_ranged m (of_ranged_states.obey functions c m.ranged);
 }
 
+-- ---- statements that ended
+
+-- the statement that began at this state, and whether it ended without error
+abbrev pub finished_from : Statement → RangedState → Bool → Finished
+finished_from t s without_error =
+    record { statement = t; number = s.begun; work = plain_work s t; shares = only_shares s t; well = without_error }
+
+-- one more that ended
+abbrev pub with_finished : Finished → Measured → Measured
+with_finished f m = record m { finished = m.finished ++ f ∷ [] }
+
+-- what came of a statement, which is entered where it ended; one that a spent budget cut off is not
+abbrev pub entered_from : Statement → RangedState → Outcome Measured Flow → Outcome Measured Flow
+entered_from t s (done flow m) = done flow (with_finished (finished_from t s true) m)
+entered_from t s (fails kind place m) = fails kind place (with_finished (finished_from t s false) m)
+entered_from t s (spent m) = spent m
+
 -- ---- the run of a script
 
 -- what a statement does, where this is what calls mean
 abbrev pub measured_flow : CallsOf Measured RangedArray → Statement → Measured → Outcome Measured Flow
-measured_flow calls t m = flow_in (of_measured calls) t (judged t m)
+measured_flow calls t m = entered_from t m.ranged (flow_in (of_measured calls) t (judged t m))
 
 -- the run of these items of a script from a state, with its footprints
 abbrev pub measured_from : Script → List Item → Measured → Run Measured
@@ -229,7 +262,7 @@ measured_from script items m =
 -- with n turns, from no variables
 abbrev pub measured_items : Script → List Item → ℕ → Run Measured
 measured_items script items n =
-    measured_from script items (record { ranged = with_ranges no_variables (beginning n); progress = []; moments = [] })
+    measured_from script items (measure_of (with_ranges no_variables (beginning n)))
 
 -- the footprints at the moments of a script's run, the newest first
 abbrev pub footprints : Script → ℕ → List ℕ

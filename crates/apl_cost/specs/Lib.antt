@@ -1,6 +1,11 @@
+pub mod Costs
 pub mod Examples
 pub mod Footprint
 pub mod Laws
+pub mod Peaks
 pub mod Plain
 pub mod RangedEvaluation
 pub mod Ranges
+pub mod Sharing
+pub mod Statements
+pub mod Table

@@ -81,7 +81,12 @@ iota_operand o p a =
 abbrev pub applied : Ranged → List ℕ → Plain → Option Plain
 applied answer shape p =
     if answer.safe
-    then Some (record p { side = record { kind = Num; interval = answer.range }; shape = shape; functions = suc p.functions; all_functions = suc p.all_functions })
+    then Some (record p {
+      side = record { kind = Num; interval = answer.range };
+      shape = shape;
+      functions = suc p.functions;
+      all_functions = suc p.all_functions;
+    })
     else None
 
 -- both operands counted together

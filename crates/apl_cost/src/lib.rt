@@ -5,8 +5,11 @@
 mod examples;
 mod laws;
 
-pub use examples::{examples_of_runs, examples_of_work};
+pub use examples::{
+    examples_of_costs, examples_of_peaks, examples_of_runs, examples_of_statements,
+    examples_of_work,
+};
 pub use laws::{
     footprints_of_runs, forgetting_gives_evaluation, numbers_from_are_exact,
-    selections_have_lengths,
+    safe_functions_have_values, selections_have_lengths,
 };

@@ -36,3 +36,18 @@ returns-clause-erased c = refl
 
 pub returns-clause-origin : goal.returns-clause-origin
 returns-clause-origin c = refl
+
+pub returns-clause-nothing_selected : goal.returns-clause-nothing_selected
+returns-clause-nothing_selected c = refl
+
+pub returns-clause-written_in_call : goal.returns-clause-written_in_call
+returns-clause-written_in_call c = refl
+
+pub returns-clause-outer_product : goal.returns-clause-outer_product
+returns-clause-outer_product c = refl
+
+pub returns-clause-text : goal.returns-clause-text
+returns-clause-text c = refl
+
+pub returns-clause-table : goal.returns-clause-table
+returns-clause-table c = refl

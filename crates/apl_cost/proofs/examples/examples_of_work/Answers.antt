@@ -42,3 +42,33 @@ returns-clause-padding c cells = refl
 
 pub returns-clause-position_by_name : goal.returns-clause-position_by_name
 returns-clause-position_by_name c cells = refl
+
+pub returns-clause-other_name : goal.returns-clause-other_name
+returns-clause-other_name c cells = refl
+
+pub returns-clause-numbers : goal.returns-clause-numbers
+returns-clause-numbers c cells = refl
+
+pub returns-clause-million : goal.returns-clause-million
+returns-clause-million c = refl
+
+pub returns-clause-turned_name : goal.returns-clause-turned_name
+returns-clause-turned_name c cells = refl
+
+pub returns-clause-output : goal.returns-clause-output
+returns-clause-output c = refl
+
+pub returns-clause-dropped_scalar : goal.returns-clause-dropped_scalar
+returns-clause-dropped_scalar c = refl
+
+pub returns-clause-scalar_with_axes : goal.returns-clause-scalar_with_axes
+returns-clause-scalar_with_axes c = refl
+
+pub returns-clause-functions_in_arguments : goal.returns-clause-functions_in_arguments
+returns-clause-functions_in_arguments c = refl
+
+pub returns-clause-many_in_arguments : goal.returns-clause-many_in_arguments
+returns-clause-many_in_arguments c = refl
+
+pub returns-clause-two_positions : goal.returns-clause-two_positions
+returns-clause-two_positions c cells = refl

@@ -1,0 +1,14 @@
+pub mod Actions
+pub mod Bound
+pub mod Cells
+pub mod Going
+pub mod Hulls
+pub mod MoreTurns
+pub mod Peaks
+pub mod PlainEnds
+pub mod PlainKinds
+pub mod Plains
+pub mod Rooms
+pub mod Rules
+pub mod Staying
+pub mod Table

@@ -1,0 +1,4 @@
+pub mod Inside
+pub mod PlainValues
+pub mod Room
+pub mod Turns
