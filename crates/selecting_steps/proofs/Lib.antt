@@ -1,0 +1,4 @@
+pub mod GivenLemmas
+pub mod NewestLemmas
+pub mod ArrayLemmas
+pub mod StepLemmas

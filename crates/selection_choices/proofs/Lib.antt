@@ -1,0 +1,5 @@
+pub mod ReverseLemmas
+pub mod LeftLemmas
+pub mod CountLemmas
+pub mod AxisLemmas
+pub mod MakeLemmas
