@@ -1,0 +1,5 @@
+pub mod Outputs
+pub mod Traces
+pub mod Branches
+pub mod Calls
+pub mod Ready
