@@ -1,0 +1,3 @@
+pub mod Options
+pub mod Workload
+pub mod Laws

@@ -1,0 +1,5 @@
+mod Joins
+mod Gathers
+mod Erasures
+mod Names
+mod Parts
