@@ -70,8 +70,6 @@ pub enum Cause {
     NameClass,
     Deep,
     Grammar,
-    /// A form of the language that this version doesn't run yet.
-    NotBuilt,
 }
 
 /// The refusal of a script: where, and why.

@@ -45,7 +45,6 @@ fn phase_of(cause: Cause) -> u32
         Cause::Utf8 | Cause::LineLong | Cause::Character | Cause::Number | Cause::OpenText => 1,
         Cause::Header | Cause::DoubleName | Cause::OpenDefinition => 2,
         Cause::NameClass | Cause::Deep | Cause::Grammar => 3,
-        Cause::NotBuilt => 4,
     }
 }
 
@@ -66,6 +65,5 @@ fn rank_of(cause: Cause) -> u32
         Cause::NameClass => 9,
         Cause::Deep => 10,
         Cause::Grammar => 11,
-        Cause::NotBuilt => 12,
     }
 }

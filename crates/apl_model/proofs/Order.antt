@@ -18,7 +18,7 @@ abbrev ranked : ℕ → Cause
 ranked n =
     cond (n == 0) cause.TooLong (cond (n == 1) cause.Utf8 (cond (n == 2) cause.LineLong (cond (n == 3) cause.Character
     (cond (n == 4) cause.Number (cond (n == 5) cause.OpenText (cond (n == 6) cause.Header (cond (n == 7) cause.DoubleName
-    (cond (n == 8) cause.OpenDefinition (cond (n == 9) cause.NameClass (cond (n == 10) cause.Deep (cond (n == 11) cause.Grammar cause.NotBuilt)))))))))))
+    (cond (n == 8) cause.OpenDefinition (cond (n == 9) cause.NameClass (cond (n == 10) cause.Deep cause.Grammar))))))))))
 
 ranked-rank : (c : Cause) → ranked (rank c) ≡ c
 ranked-rank cause.TooLong = refl
@@ -33,7 +33,6 @@ ranked-rank cause.OpenDefinition = refl
 ranked-rank cause.NameClass = refl
 ranked-rank cause.Deep = refl
 ranked-rank cause.Grammar = refl
-ranked-rank cause.NotBuilt = refl
 
 same_refusal : (r s : Refusal) → order r ≡ order s → r ≡ s
 same_refusal r s e =

@@ -263,7 +263,6 @@ rank cause.OpenDefinition = 8
 rank cause.NameClass = 9
 rank cause.Deep = 10
 rank cause.Grammar = 11
-rank cause.NotBuilt = 12
 
 abbrev pub phase : Cause → ℕ
 phase cause.TooLong = 0
@@ -278,7 +277,6 @@ phase cause.OpenDefinition = 2
 phase cause.NameClass = 3
 phase cause.Deep = 3
 phase cause.Grammar = 3
-phase cause.NotBuilt = 4
 
 -- what refusals are put in order by: the earliest phase, then the line, then the column, then the order of the table
 abbrev pub order : Refusal → List ℕ

@@ -7,7 +7,7 @@ use Rattle.std.proofs.lemmas.List.{take_more}
 use Rattle.std.proofs.lemmas.Str.{encode_ascii}
 use Rattle.apl_base.specs.declared.faults.Refusal.{Refusal}
 use Rattle.apl_base.specs.declared.faults.Cause.{Cause}
-use Rattle.apl_base.specs.declared.faults.Cause.TheVariants.{TooLong, Utf8, LineLong, Character, Number, OpenText, Header, DoubleName, OpenDefinition, NameClass, Deep, Grammar, NotBuilt}
+use Rattle.apl_base.specs.declared.faults.Cause.TheVariants.{TooLong, Utf8, LineLong, Character, Number, OpenText, Header, DoubleName, OpenDefinition, NameClass, Deep, Grammar}
 use Rattle.array_desc.specs.Desc.{DescView}
 use Rattle.drag_along.specs.declared.leaves.Leaf.{Leaf}
 use Rattle.drag_along.specs.Nodes.{leaf_desc}
@@ -43,7 +43,6 @@ own_cause OpenDefinition = own-test (codes "OPEN DEFINITION") refl
 own_cause NameClass = own-test (codes "NAME CLASS") refl
 own_cause Deep = own-test (codes "DEEP") refl
 own_cause Grammar = own-test (codes "GRAMMAR") refl
-own_cause NotBuilt = own-test (codes "NOT BUILT") refl
 
 pub refusal_bytes : (r : Refusal) (bs : List ℕ) → r.line < 2 ^ 64 → r.column < 2 ^ 64 → bs ≡ codes "REFUSED" ++ (32 ∷ (decimal r.line ++ (32 ∷ (decimal r.column ++ (32 ∷ (cause_words r.cause ++ (10 ∷ []))))))) → bs ≡ encode_utf8_all (refusal_line r)
 refusal_bytes r bs l c e =

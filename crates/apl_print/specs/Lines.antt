@@ -3,7 +3,7 @@ use Rattle.std.specs.Prelude.{ℕ, ◌+◌, ◌-◌, ℤ, pos, List, [], ◌∷�
 use Rattle.std.specs.List.{join_by}
 use Rattle.apl_base.specs.declared.faults.Refusal.{Refusal}
 use Rattle.apl_base.specs.declared.faults.Cause.{Cause}
-use Rattle.apl_base.specs.declared.faults.Cause.TheVariants.{TooLong, Utf8, LineLong, Character, Number, OpenText, Header, DoubleName, OpenDefinition, NameClass, Deep, Grammar, NotBuilt}
+use Rattle.apl_base.specs.declared.faults.Cause.TheVariants.{TooLong, Utf8, LineLong, Character, Number, OpenText, Header, DoubleName, OpenDefinition, NameClass, Deep, Grammar}
 use Rattle.array_desc.specs.Desc.{DescView}
 use Rattle.drag_along.specs.declared.leaves.Leaf.{Leaf}
 use Rattle.drag_along.specs.declared.leaves.Leaf.TheVariants.{Stored, Gen}
@@ -37,7 +37,6 @@ cause_words OpenDefinition = codes "OPEN DEFINITION"
 cause_words NameClass = codes "NAME CLASS"
 cause_words Deep = codes "DEEP"
 cause_words Grammar = codes "GRAMMAR"
-cause_words NotBuilt = codes "NOT BUILT"
 
 -- the line of a refusal: `REFUSED`, its line, its column and the words of its cause
 abbrev pub refusal_line : Refusal → List ℕ

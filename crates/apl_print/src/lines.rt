@@ -68,7 +68,6 @@ fn words_of(cause: Cause) -> &'static str
         Cause::NameClass => "NAME CLASS",
         Cause::Deep => "DEEP",
         Cause::Grammar => "GRAMMAR",
-        Cause::NotBuilt => "NOT BUILT",
     }
 }
 

@@ -1,4 +1,3 @@
 pub mod NoNumbers
 pub mod Pieces
 pub mod Refusals
-pub mod Sums
