@@ -11,3 +11,4 @@ pub mod ReshapeLemmas
 pub mod AxisLemmas
 pub mod TurnLemmas
 pub mod TestLemmas
+pub mod BlockLemmas

@@ -1,5 +1,5 @@
 //! Rotation of an axis.
-ghost use Rattle.std.specs.Prelude.{◌≡◌, ◌⊎◌, ◌+◌, ◌*◌, ◌/◌, ◌%◌, ◌^◌, ◌<◌, ◌≤◌, ℕ, ◌==◌, pos, ◌+ℤ◌, unsigned_abs, Ok, Err, [], map, length, take, drop, remove, slice_index, slice_index_or, if◌then◌else◌, IsTrue, ◌↔◌, All, min, IfOk, OnOk, IfErr, vec_capacity};
+ghost use Rattle.std.specs.Prelude.{◌≡◌, ◌⊎◌, ◌+◌, ◌-◌, ◌*◌, ◌/◌, ◌%◌, ◌^◌, ◌<◌, ◌≤◌, ℕ, ◌==◌, ◌++◌, pos, ◌+ℤ◌, unsigned_abs, Ok, Err, [], map, length, take, drop, remove, slice_index, slice_index_or, if◌then◌else◌, IsTrue, ◌↔◌, All, min, IfOk, OnOk, IfErr, vec_capacity};
 ghost use Rattle.std.specs.Int.{int_rem_euclid};
 ghost use Rattle.apl_base.specs.Array.{size_of, IsShape};
 ghost use Rattle.apl_base.specs.Number.{IsNumber};
@@ -116,16 +116,72 @@ fn turn(turns: &[Cell], items: &[Cell], lengths: &[u64], along: usize, cells: &m
         ≡ map (turned_cell lengths.now along turns.now items.now) (upward 0 (size_of lengths.now)) }
 {
     if lengths.is_empty() || items.is_empty() {
-        let Ok(()) = cells.extend_from_slice(items) else {
-            unreachable!()
-        };
+        append(items, cells);
         return;
     }
-    turn_lines(turns, items, lengths, along, cells);
+    if turns.len() == 1 || size_behind(lengths, along) == 1 {
+        turn_blocks(turns, items, lengths, along, cells);
+    } else {
+        turn_places(turns, items, lengths, along, cells);
+    }
 }
 
-// The same where there is an axis and an element.
-fn turn_lines(turns: &[Cell], items: &[Cell], lengths: &[u64], along: usize, cells: &mut Vec<Cell>)
+// The same where there is an axis and an element, and the lines of a block, from one number on the axis before it to the
+// next, are turned alike: each block is turned as a whole.
+fn turn_blocks(turns: &[Cell], items: &[Cell], lengths: &[u64], along: usize, cells: &mut Vec<Cell>)
+    requires within { along < length lengths.now }
+    requires items { length items.now ≡ size_of lengths.now }
+    requires some { 0 < size_of lengths.now }
+    requires few { size_of lengths.now ≤ 2 ^ 40 }
+    requires turns { (length turns.now ≡ 1)
+        ⊎ (length turns.now ≡ size_of (remove lengths.now along)) }
+    requires alike { (length turns.now ≡ 1) ⊎ (run_of lengths.now along ≡ 1) }
+    requires numbers { All IsNumber turns.now }
+    requires empty { cells.old.items ≡ [] }
+    requires room { size_of lengths.now ≤ vec_capacity cells.old }
+    ensures { cells.new.items ≡ map (turned_cell lengths.now along turns.now items.now)
+        (upward 0 (size_of lengths.now)) }
+{
+    let length = lengths[along] as usize;
+    let run = size_behind(lengths, along);
+    let size = length * run;
+    for block in 0..items.len() / size {
+        let start = block * size;
+        let number = turned_number(0, turn_of(turns, length, run, start), length);
+        append_turned(items, start, start + number * run, start + size, cells);
+    }
+}
+
+// Appends the cells from `middle` up to `end` to a vector that has room for them, and then those from `start` up to
+// `middle`.
+fn append_turned(items: &[Cell], start: usize, middle: usize, end: usize, cells: &mut Vec<Cell>)
+    requires first { start ≤ middle }
+    requires second { middle ≤ end }
+    requires within { end ≤ length items.now }
+    requires few { length items.now ≤ 2 ^ 40 }
+    requires room { length cells.old.items + (end - start) ≤ vec_capacity cells.old }
+    ensures items { cells.new.items ≡ cells.old.items
+        ++ (take (end - middle) (drop middle items.now)
+        ++ take (middle - start) (drop start items.now)) }
+    ensures capacity { vec_capacity cells.old ≤ vec_capacity cells.new }
+{
+    append(&items[middle..end], cells);
+    append(&items[start..middle], cells);
+}
+
+// Appends cells to a vector that has room for them.
+fn append(more: &[Cell], cells: &mut Vec<Cell>)
+    requires { length cells.old.items + length more.now ≤ vec_capacity cells.old }
+    ensures items { cells.new.items ≡ cells.old.items ++ more.now }
+    ensures capacity { vec_capacity cells.old ≤ vec_capacity cells.new }
+{
+    let Ok(()) = cells.extend_from_slice(more) else {
+        unreachable!()
+    };
+}
+
+// The same where there is an axis and an element, place by place.
+fn turn_places(turns: &[Cell], items: &[Cell], lengths: &[u64], along: usize, cells: &mut Vec<Cell>)
     requires within { along < length lengths.now }
     requires items { length items.now ≡ size_of lengths.now }
     requires some { 0 < size_of lengths.now }

@@ -1,3 +1,4 @@
 pub mod Factorials
 pub mod Powers
 mod Filling
+mod Products

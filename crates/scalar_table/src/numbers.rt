@@ -1,6 +1,6 @@
 //! The numbers of the language: sums, products, powers, quotients.
 
-ghost use Rattle.std.specs.Prelude.{◌≡◌, ◌<◌, pos, unsigned_abs, ◌+ℤ◌, ◌-ℤ◌, ◌*ℤ◌};
+ghost use Rattle.std.specs.Prelude.{◌≡◌, ◌↔◌, ◌<◌, ◌≤◌, ◌^◌, IsTrue, pos, unsigned_abs, ◌+ℤ◌, ◌-ℤ◌, ◌*ℤ◌};
 ghost use Rattle.apl_base.specs.Number.{IsNumber};
 ghost use Rattle.apl_base.specs.Scalar.{in_range, residue, power, quotient, factorial_of, truth, truth_value, number, of_number};
 ghost use Rattle.std.specs.Option.{option_map};
@@ -36,7 +36,21 @@ pub(crate) fn difference_of(a: Cell, b: Cell) -> Option<Cell>
 pub(crate) fn product_of(a: Cell, b: Cell) -> Option<Cell>
     ensures { result ≡ in_range (a *ℤ b) }
 {
-    number_of(a.checked_mul(b)?)
+    if is_small(a) && is_small(b) {
+        Some(a * b)
+    } else {
+        number_of(a.checked_mul(b)?)
+    }
+}
+
+/// Two numbers no further from 0 than this have a product that is a number, so it needs no test.
+const SMALL: Cell = 1_000_000_000_000_000_000;
+
+/// Whether it is no further from 0 than `SMALL`.
+fn is_small(z: Cell) -> bool
+    ensures { IsTrue result ↔ (unsigned_abs z ≤ 10 ^ 18) }
+{
+    -SMALL <= z && z <= SMALL
 }
 
 /// The exact quotient, where there is one; 0 over 0 is 1.

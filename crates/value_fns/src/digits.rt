@@ -1,6 +1,6 @@
 //! Digits of numbers in bases.
 
-ghost use Rattle.std.specs.Prelude.{◌≡◌, ◌*◌, map, length, All};
+ghost use Rattle.std.specs.Prelude.{◌≡◌, ◌*◌, ◌^◌, ◌<ℤ◌, ◌≤ℤ◌, pos, map, length, All, IsTrue};
 ghost use Rattle.apl_base.specs.Number.{IsNumber};
 ghost use Rattle.apl_model.specs.Made.{carried};
 ghost use Rattle.value_fns.specs.Digits.{digit_of, digit_table};
@@ -48,7 +48,9 @@ fn digit(base: Cell, value: Cell) -> Cell
     requires value { IsNumber value }
     ensures { result ≡ digit_of base value }
 {
-    if base != 0 {
+    if are_small(base, value) {
+        (value as u64 % base as u64) as Cell
+    } else if base != 0 {
         value.rem_euclid(base)
     } else if 0 <= value {
         value
@@ -64,9 +66,22 @@ fn carry(base: Cell, value: Cell) -> Cell
     ensures left { result ≡ carried base value }
     ensures number { IsNumber result }
 {
-    if base == 0 {
+    if are_small(base, value) {
+        (value as u64 / base as u64) as Cell
+    } else if base == 0 {
         0
     } else {
         value.div_euclid(base.abs())
     }
+}
+
+/// Numbers below this one are divided as numbers of 64 bits, which is quicker.
+const SMALL: Cell = 1 << 64;
+
+// Whether a base is positive and small, and a number is small and not negative.
+fn are_small(base: Cell, value: Cell) -> bool
+    ensures { IsTrue result → ((pos 0 <ℤ base) × (base <ℤ pos (2 ^ 64)))
+        × ((pos 0 ≤ℤ value) × (value <ℤ pos (2 ^ 64))) }
+{
+    0 < base && base < SMALL && 0 <= value && value < SMALL
 }

@@ -3,7 +3,7 @@ use Rattle.std.proofs.Common.{◌≡◌, ◌∙◌, length, vec_len, arith, rule
 use Rattle.std.proofs.lemmas.Int.{to_z-of_z}
 use Rattle.made_fns.specs.Lines.{turned_cell}
 use Rattle.made_fns.proofs.TurnLemmas.{line_facts, line_known, cell_is, grown, grown_long}
-use Rattle.made_fns.proofs.turns.turn_lines.Goals as goal
+use Rattle.made_fns.proofs.turns.turn_places.Goals as goal
 
 pub nonzero_div-number : goal.nonzero_div-number
 nonzero_div-number c = (line_facts c.args.lengths.now c.args.along _ c.loop-place.place c.size_behind-run.ensures c.requires.within (omega (arith, c.loop-place-test.true, c.requires.items))).some

@@ -1,7 +1,7 @@
 use Rattle.std.proofs.Common.{◌≡◌, ◌≤◌, map, length, vec_capacity}
 use Rattle.apl_base.specs.Selection.{upward}
 use Rattle.made_fns.specs.Lines.{turned_cell}
-use Rattle.made_fns.proofs.turns.turn_lines.Given as goal
+use Rattle.made_fns.proofs.turns.turn_places.Given as goal
 
 -- the elements so far are turned
 abbrev pub invariant-loop-place : goal.invariant-loop-place
