@@ -75,6 +75,22 @@ abbrev mutual
   positions_code no_position = []
   positions_code (position q qs) = positions_code qs ++ slot_code q
 
+-- what stands before the instruction of a node itself: the code of its parts
+abbrev pub parts_code : Tree → List Instruction
+parts_code (constant literal place) = []
+parts_code (variable name place) = []
+parts_code (call f left right place) = slot_code right ++ slot_code left
+parts_code (parenthesis inner place) = expression_code inner
+parts_code (monadic f right place) = expression_code right
+parts_code (dyadic f left right place) = expression_code right ++ expression_code left
+parts_code (reduction f axis right place) = expression_code right
+parts_code (outer_product f left right place) = expression_code right ++ expression_code left
+parts_code (inner_product f g left right place) = expression_code right ++ expression_code left
+parts_code (subscript array qs place) = positions_code qs ++ expression_code array
+parts_code (assignment name value place) = expression_code value
+parts_code (indexed_assignment name qs value place) = expression_code value ++ positions_code qs
+parts_code (output value place) = expression_code value
+
 -- ---- statements
 
 -- PRINT and END stand at no token: they have the statement's line, and column 0

@@ -4,7 +4,7 @@
 ghost use Rattle.std.specs.Prelude.{◌≡◌, ◌++◌, OnOk, IfOk};
 ghost use Rattle.apl_model.specs.Mirror.{tree_of};
 ghost use Rattle.apl_model.proofs.Bridge.{slot_with, positions_with};
-ghost use Rattle.apl_compile.specs.Code.{at, arguments, mask_of, own_code, expression_code};
+ghost use Rattle.apl_compile.specs.Code.{at, arguments, mask_of, own_code, parts_code, expression_code};
 ghost use Rattle.apl_compile.specs.Code.{slot_code, positions_code};
 
 use crate::codes::{Instruction, Op};
@@ -13,32 +13,36 @@ use apl_model::{Axis, Expr, Literal};
 use sqlite_items::{Boxed, Items};
 use std::alloc::Global;
 
-// Puts the code of an expression behind the instructions: that of its parts, and then its own instruction.
+// Puts the code of an expression behind the instructions: that of its parts, then its own instruction.
 #[cycle(emit)]
 pub(crate) fn emit(alloc: Global, e: &Expr, code: &mut Items<Instruction>) -> Result<(), NoMemory>
     ensures { OnOk result (code.new ≡ code.old ++ expression_code (tree_of e.now)) }
 {
+    emit_parts(alloc, e, code)?;
+    put_own(alloc, e, code)
+}
+
+// The code of the parts of an expression: the one on the right first, and positions before their array.
+#[cycle(emit)]
+fn emit_parts(alloc: Global, e: &Expr, code: &mut Items<Instruction>) -> Result<(), NoMemory>
+    ensures { OnOk result (code.new ≡ code.old ++ parts_code (tree_of e.now)) }
+{
     match e {
-        Expr::Paren { inner, .. } => emit(alloc, inner.get(), code),
-        Expr::Lit { .. } | Expr::Name { .. } => put_own(alloc, e, code),
-        Expr::One { right: part, .. }
+        Expr::Lit { .. } | Expr::Name { .. } => Ok(()),
+        Expr::Paren { inner: part, .. }
+        | Expr::One { right: part, .. }
         | Expr::Reduce { right: part, .. }
         | Expr::Assign { value: part, .. }
-        | Expr::Output { value: part, .. } => {
-            emit(alloc, part.get(), code)?;
-            put_own(alloc, e, code)
-        }
+        | Expr::Output { value: part, .. } => emit(alloc, part.get(), code),
         Expr::Two { left, right, .. }
         | Expr::Outer { left, right, .. }
         | Expr::Inner { left, right, .. } => {
             emit(alloc, right.get(), code)?;
-            emit(alloc, left.get(), code)?;
-            put_own(alloc, e, code)
+            emit(alloc, left.get(), code)
         }
         Expr::Call { left, right, .. } => {
             emit_argument(alloc, right, code)?;
-            emit_argument(alloc, left, code)?;
-            put_own(alloc, e, code)
+            emit_argument(alloc, left, code)
         }
         Expr::Index {
             array,
@@ -46,17 +50,15 @@ pub(crate) fn emit(alloc: Global, e: &Expr, code: &mut Items<Instruction>) -> Re
             ..
         } => {
             emit_positions(alloc, read.as_slice(), code)?;
-            emit(alloc, array.get(), code)?;
-            put_own(alloc, e, code)
+            emit(alloc, array.get(), code)
         }
         Expr::IndexAssign {
-            positions,
+            positions: written,
             value,
             ..
         } => {
             emit(alloc, value.get(), code)?;
-            emit_positions(alloc, positions.as_slice(), code)?;
-            put_own(alloc, e, code)
+            emit_positions(alloc, written.as_slice(), code)
         }
     }
 }
