@@ -121,7 +121,7 @@ pub record LabelsSet (old now : Machine) (labels : List (Option (List ℕ))) (co
   pub run : IsSameCount old now
 
 pub no_label_set : (m : Machine) (labels : List (Option (List ℕ))) → LabelsSet m m labels 0
-no_label_set m labels = record { lawful = λ hand l. l; variables = λ hand l. refl; pending = λ hand l. refl; limit = refl; run = record { turns = refl; begun = refl; traced = refl; costs = refl; origin = refl } }
+no_label_set m labels = record { lawful = λ hand l. l; variables = λ hand l. refl; pending = λ hand l. refl; limit = refl; run = record { turns = refl; begun = refl; traced = refl; costs = refl; origin = refl; limit = refl } }
 
 pub label_set_too : (old m0 m1 : Machine) (labels rest : List (Option (List ℕ))) (count : ℕ) (label : Option (List ℕ)) → drop count labels ≡ label ∷ rest → drop (suc count) labels ≡ rest → LabelsSet old m0 labels count → Changes m0 m1 (with_argument label (Some (line_number (suc count)))) → IsSameCount m0 m1 → LabelsSet old m1 labels (suc count)
 label_set_too old m0 m1 labels rest count label here there s c run = record {

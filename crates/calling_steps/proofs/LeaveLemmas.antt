@@ -172,10 +172,11 @@ same_counts a b c j k = record {
   traced = k.traced ∙ j.traced;
   costs = k.costs ∙ j.costs;
   origin = k.origin ∙ j.origin;
+  limit = k.limit ∙ j.limit;
 }
 
 pub no_frame_gone : (m : Machine) (end : ℕ) → end ≡ length m.names.frames → IsLawfulBeside m → FramesGo m m 0 end
-no_frame_gone m end all some = record { unwinds = none_unwound m; run = record { turns = refl; begun = refl; traced = refl; costs = refl; origin = refl }; some = some; all = all }
+no_frame_gone m end all some = record { unwinds = none_unwound m; run = record { turns = refl; begun = refl; traced = refl; costs = refl; origin = refl; limit = refl }; some = some; all = all }
 
 pub frame_is_there : (old now : Machine) (gone end : ℕ) → gone < end → FramesGo old now gone end → 0 < length now.names.frames
 frame_is_there old now gone end less s = omega (arith, less, s.unwinds.count, s.all)

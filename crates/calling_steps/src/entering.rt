@@ -1,6 +1,6 @@
 //! The beginning of a call.
 
-ghost use Rattle.std.specs.Prelude.{◌≡◌, ◌≤◌, length, map, true, IfErr, OnOk};
+ghost use Rattle.std.specs.Prelude.{◌≡◌, ◌<◌, ◌≤◌, length, map, true, IfErr, OnOk};
 ghost use Rattle.std.specs.List.{IsDistinct};
 ghost use Rattle.apl_model.specs.Environment.{is_same_name, with_frame};
 ghost use Rattle.apl_model.specs.Frames.{line_number, unset};
@@ -8,7 +8,7 @@ ghost use Rattle.name_table.specs.Laws.{declared_by, with_labels};
 ghost use Rattle.pending_steps.specs.Leaves.{IsStopped};
 ghost use Rattle.pending_steps.specs.Steps.{OnError};
 ghost use Rattle.machine_state.specs.Steps.{pending, IsLawfulBeside, IsSameCount, Keeps};
-ghost use Rattle.calling_steps.specs.Calls.{labels_in, operands_of, takes_left, takes_right, Enters, IsNotEntered};
+ghost use Rattle.calling_steps.specs.Calls.{labels_in, most_calls, operands_of, takes_left, takes_right, Enters, IsNotEntered};
 ghost use Rattle.calling_steps.specs.Ready.{AreArrays, Changes};
 
 use crate::declaring::declared_names;
@@ -38,6 +38,7 @@ pub fn enter(
     requires distinct { IsDistinct is_same_name (declared_by header.now (labels_in body.now)) }
     ensures enters { OnOk result
         (Enters machine.old machine.new header.now (labels_in body.now) arguments) }
+    ensures pending { OnOk result (length machine.old.names.frames < most_calls) }
     ensures keeps { OnError result (Keeps machine.old machine.new) }
     ensures names { OnError result (machine.new.names ≡ machine.old.names) }
     ensures halted { IfErr result (IsNotEntered machine.old place) }

@@ -1,6 +1,6 @@
 //! Entries that are let go.
 
-ghost use Rattle.std.specs.Prelude.{◌≤◌, ◌<◌, length, OnOk};
+ghost use Rattle.std.specs.Prelude.{◌≡◌, ◌≤◌, ◌<◌, length, OnOk};
 ghost use Rattle.array_store.specs.Follows.{Holds};
 ghost use Rattle.value_stack.specs.Stacks.{named_on, IsLawfulStack};
 ghost use Rattle.indexing_steps.specs.Falls.{Drops, DropsBelow};
@@ -29,6 +29,7 @@ pub fn drop_below(count: usize, stack: &mut Stack, store: &mut Store) -> Result<
     requires lawful { IsLawfulStack store.old stack.old }
     requires held { Holds store.old (named_on stack.old) }
     ensures dropped { OnOk result (DropsBelow store.old store.new stack.old stack.new count) }
+    ensures limit { store.new.limit ≡ store.old.limit }
 {
     let Some(newest) = stack.pop() else {
         unreachable!()

@@ -46,6 +46,7 @@ pub fn gather_subscript(
     ensures halted { IfErr result (IsHaltedFrom origin
         (record { place = place; op = op.Index mask.now }) (1 + positions_in mask.now)
         store.old.limit (entries store.old stack.old)) }
+    ensures limit { store.new.limit ≡ store.old.limit }
 {
     let end = stack.len();
     compute_between(alloc, end - 1 - count_there(mask), end, stack, store)?;
@@ -76,6 +77,7 @@ fn gather_leaves(
     ensures halted { IfErr result (IsHaltedFrom origin
         (record { place = place; op = op.Index mask.now }) (1 + positions_in mask.now)
         store.old.limit (entries store.old stack.old)) }
+    ensures limit { store.new.limit ≡ store.old.limit }
 {
     let newest = stack.len() - 1;
     let positions = positions_below(alloc, mask, newest, stack)?;
@@ -114,6 +116,7 @@ fn put_gathered(
     requires held { Holds store.old (both (named_on stack.old) (named_by_leaf leaf)) }
     ensures puts { OnOk result (PutsOver store.old store.new stack.old stack.new leaf
         (1 + positions_in mask.now)) }
+    ensures limit { store.new.limit ≡ store.old.limit }
 {
     let count = 1 + count_there(mask);
     push_leaf(alloc, leaf, stack, store)?;

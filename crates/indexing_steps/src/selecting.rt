@@ -39,6 +39,7 @@ pub fn select_subscript(
         (record { place = place; op = op.Index mask.now }) (1 + positions_in mask.now) 1
         (entries store.old stack.old) (entries store.new stack.new)) }
     ensures moves { OnOk result (Moves store.old store.new stack.old stack.new none none) }
+    ensures limit { store.new.limit ≡ store.old.limit }
 {
     select_newest(by, stack, store)?;
     drop_below(count_there(mask), stack, store)

@@ -47,6 +47,7 @@ pub fn subscript(
     ensures halted { IfErr result (IsHaltedFrom origin
         (record { place = place; op = op.Index mask.now }) (1 + positions_in mask.now)
         store.old.limit (entries store.old stack.old)) }
+    ensures limit { store.new.limit ≡ store.old.limit }
 {
     make_ready(alloc, mask, stack, store)?;
     answer(alloc, mask, place, origin, stack, store)
@@ -76,6 +77,7 @@ fn answer(
     ensures halted { IfErr result (IsHaltedFrom origin
         (record { place = place; op = op.Index mask.now }) (1 + positions_in mask.now)
         store.old.limit (entries store.old stack.old)) }
+    ensures limit { store.new.limit ≡ store.old.limit }
 {
     match choose_newest(alloc, mask, origin, stack, store)? {
         Choice::Select { by } => {

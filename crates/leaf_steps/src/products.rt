@@ -1,6 +1,6 @@
 //! Reductions, inner and outer products.
 
-ghost use Rattle.std.specs.Prelude.{ℤ, ◌≤◌, length, IfErr, OnOk};
+ghost use Rattle.std.specs.Prelude.{◌≡◌, ℤ, ◌≤◌, length, IfErr, OnOk};
 ghost use Rattle.array_store.specs.Follows.{Holds, none};
 ghost use Rattle.drag_along.specs.Lawful.{IsLawfulLeaf};
 ghost use Rattle.value_stack.specs.Stacks.{named_on, entries, IsLawfulStack};
@@ -45,6 +45,7 @@ pub fn reduction(
     ensures moves { Reaches result (Moves store.old store.new stack.old stack.new none none) }
     ensures halted { IfErr result (IsHaltedFrom origin (record { place = place; op = Red f axis }) 1
         store.old.limit (entries store.old stack.old)) }
+    ensures limit { store.new.limit ≡ store.old.limit }
 {
     let b = take_one(alloc, stack, store)?;
     let made = reduced(f, axis, &b, origin, store);
@@ -84,6 +85,7 @@ pub fn inner_product(
     ensures halted { (origin : ℤ) → IfErr result
         (IsHaltedFrom origin (record { place = place; op = Inner f g }) 2
         store.old.limit (entries store.old stack.old)) }
+    ensures limit { store.new.limit ≡ store.old.limit }
 {
     let arguments = take_two(alloc, stack, store)?;
     let made = multiplied(f, g, &arguments.left, &arguments.right, store);
@@ -120,6 +122,7 @@ pub fn outer_product(
     ensures halted { (origin : ℤ) → IfErr result
         (IsHaltedFrom origin (record { place = place; op = Outer f }) 2
         store.old.limit (entries store.old stack.old)) }
+    ensures limit { store.new.limit ≡ store.old.limit }
 {
     let arguments = take_two(alloc, stack, store)?;
     match outer(f, arguments.left, arguments.right, place, store) {

@@ -45,6 +45,7 @@ pub fn take_one(alloc: Global, stack: &mut Stack, store: &mut Store) -> Result<L
         (IsNotComputed store.old.limit (entries store.old stack.old)) }
     ensures moves { IfErr result (λ why.
         AtError why (Moves store.old store.new stack.old stack.new none none)) }
+    ensures limit { store.new.limit ≡ store.old.limit }
 {
     settle_entries(alloc, stack, store)?;
     take_safe(stack, store)
@@ -61,6 +62,7 @@ pub fn take_two(alloc: Global, stack: &mut Stack, store: &mut Store) -> Result<A
         (IsNotComputed store.old.limit (entries store.old stack.old)) }
     ensures moves { IfErr result (λ why.
         AtError why (Moves store.old store.new stack.old stack.new none none)) }
+    ensures limit { store.new.limit ≡ store.old.limit }
 {
     settle_entries(alloc, stack, store)?;
     let left = take_safe(stack, store)?;
@@ -79,6 +81,7 @@ pub fn take_safe(stack: &mut Stack, store: &mut Store) -> Result<Leaf, Halt>
     ensures safe { IsLeastOrNone MayFail stack.new 0 None }
     ensures length { length stack.old ≡ length stack.new + 1 }
     ensures stopped { IfErr result (IsStopped store.old.limit) }
+    ensures limit { store.new.limit ≡ store.old.limit }
 {
     let Some(newest) = stack.pop() else {
         unreachable!()
@@ -93,6 +96,7 @@ fn as_leaf(s: Segment, store: &mut Store) -> Result<Leaf, Halt>
     requires held { Holds store.old (named_by s) }
     ensures comes { IfOk result (ComesAsLeaf store.old store.new s) }
     ensures stopped { IfErr result (IsStopped store.old.limit) }
+    ensures limit { store.new.limit ≡ store.old.limit }
 {
     match s.only_leaf() {
         Some(leaf) => Ok(leaf.copy()),
@@ -108,6 +112,7 @@ fn computed(s: Segment, store: &mut Store) -> Result<Leaf, Halt>
     requires held { Holds store.old (named_by s) }
     ensures comes { IfOk result (ComesAsLeaf store.old store.new s) }
     ensures stopped { IfErr result (IsStopped store.old.limit) }
+    ensures limit { store.new.limit ≡ store.old.limit }
 {
     match force(&s, store) {
         Ok(leaf) => {

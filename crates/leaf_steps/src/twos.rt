@@ -1,6 +1,6 @@
 //! Functions of two arguments that are made at once.
 
-ghost use Rattle.std.specs.Prelude.{◌≤◌, length, IfErr, OnOk};
+ghost use Rattle.std.specs.Prelude.{◌≡◌, ◌≤◌, length, IfErr, OnOk};
 ghost use Rattle.array_store.specs.Follows.{Holds, none};
 ghost use Rattle.drag_along.specs.Lawful.{IsLawfulLeaf};
 ghost use Rattle.value_stack.specs.Stacks.{named_on, entries, IsLawfulStack};
@@ -47,6 +47,7 @@ pub fn made_two(
     ensures moves { Reaches result (Moves store.old store.new stack.old stack.new none none) }
     ensures halted { IfErr result (IsHaltedFrom origin (record { place = place; op = Dya f }) 2
         store.old.limit (entries store.old stack.old)) }
+    ensures limit { store.new.limit ≡ store.old.limit }
 {
     let arguments = take_two(alloc, stack, store)?;
     let made = value_of_two(f, &arguments.left, &arguments.right, origin, store);

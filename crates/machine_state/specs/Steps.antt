@@ -39,6 +39,7 @@ pub record IsSameRun (old new : Machine) : Type 0 where
   pub traced : new.traced ≡ old.traced
   pub costs : new.costs ≡ old.costs
   pub origin : new.origin ≡ old.origin
+  pub limit : new.store.limit ≡ old.store.limit
 
 -- whatever leaves are in hand, the machine is lawful with them as it was, and stands for the same variables
 pub record Keeps (old new : Machine) : Type 0 where
@@ -119,6 +120,7 @@ pub record IsSameCount (old new : Machine) : Type 0 where
   pub traced : new.traced ≡ old.traced
   pub costs : new.costs ≡ old.costs
   pub origin : new.origin ≡ old.origin
+  pub limit : new.store.limit ≡ old.store.limit
 
 -- a leaf is in hand, few others are, and the machine is lawful with them
 abbrev pub HasLeafInHand : Machine → Leaf → Type 0

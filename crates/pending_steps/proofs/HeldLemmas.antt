@@ -50,6 +50,10 @@ newest_was stack older s t is g =
     let both_are : Some t ≡ Some s = sym g ∙ at in
     cc
 
+-- and stood above the others
+pub newest_above : (stack older : List SegmentView) (s t : SegmentView) → stack ≡ older ++ s ∷ [] → slice_get stack (length stack - 1) ≡ Some t → stack ≡ older ++ t ∷ []
+newest_above stack older s t is g = is ∙ ap (λ (x : SegmentView). older ++ x ∷ []) (sym (newest_was stack older s t is g))
+
 pub record IsDropped (old new : StoreView) (stack older : List SegmentView) (s : SegmentView) : Type 0 where
   pub means : entries old stack ≡ entries new older ++ entry old s ∷ []
   pub moves : Moves old new stack older none none

@@ -51,6 +51,7 @@ pub fn push_held(
     ensures puts { OnOk result
         (PutsHeld store.old store.new stack.old stack.new leaf.now) }
     ensures kept { OnErr result (stack.new ≡ stack.old) }
+    ensures limit { store.new.limit ≡ store.old.limit }
 {
     let held = leaf.held(store);
     push_leaf(alloc, held, stack, store)
@@ -63,6 +64,8 @@ pub fn drop_newest(stack: &mut Stack, store: &mut Store)
     requires held { Holds store.old (named_on stack.old) }
     ensures dropped { (s : SegmentView) → slice_get stack.old (length stack.old - 1) ≡ Some s
         → entries store.old stack.old ≡ entries store.new stack.new ++ entry store.old s ∷ [] }
+    ensures rest { (s : SegmentView) → slice_get stack.old (length stack.old - 1) ≡ Some s
+        → stack.old ≡ stack.new ++ s ∷ [] }
     ensures moves { Moves store.old store.new stack.old stack.new none none }
     ensures counts { store.new.counts ≡ store.old.counts }
 {
@@ -81,7 +84,10 @@ pub fn take_leaf(stack: &mut Stack, store: &mut Store) -> Result<Leaf, Halt>
     requires lawful { IsLawfulStack store.old stack.old }
     requires held { Holds store.old (named_on stack.old) }
     ensures takes { IfOk result (TakesLeaf store.old store.new stack.old stack.new) }
+    ensures rest { (s : SegmentView) → slice_get stack.old (length stack.old - 1) ≡ Some s
+        → stack.old ≡ stack.new ++ s ∷ [] }
     ensures stopped { IfErr result (IsStopped store.old.limit) }
+    ensures limit { store.new.limit ≡ store.old.limit }
 {
     let Some(newest) = stack.pop() else {
         unreachable!()
@@ -96,6 +102,7 @@ fn as_leaf(s: Segment, store: &mut Store) -> Result<Leaf, Halt>
     requires held { Holds store.old (named_by s) }
     ensures comes { IfOk result (ComesAsLeaf store.old store.new s) }
     ensures stopped { IfErr result (IsStopped store.old.limit) }
+    ensures limit { store.new.limit ≡ store.old.limit }
 {
     match s.only_leaf() {
         Some(leaf) => Ok(leaf.copy()),
@@ -111,6 +118,7 @@ fn computed(s: Segment, store: &mut Store) -> Result<Leaf, Halt>
     requires held { Holds store.old (named_by s) }
     ensures comes { IfOk result (ComesAsLeaf store.old store.new s) }
     ensures stopped { IfErr result (IsStopped store.old.limit) }
+    ensures limit { store.new.limit ≡ store.old.limit }
 {
     match force(&s, store) {
         Ok(leaf) => {

@@ -44,6 +44,7 @@ pub fn push_literal(
     ensures moves { Reaches result (Moves store.old store.new stack.old stack.new none none) }
     ensures halted { IfErr result
         (IsNotComputed store.old.limit (entries store.old stack.old)) }
+    ensures limit { store.new.limit ≡ store.old.limit }
 {
     if let [cell] = literal.cells.as_slice() {
         push_single(alloc, *cell, literal, stack, store)?;
@@ -89,6 +90,7 @@ fn push_stored(
         (entries store.old stack.old) (entries store.new stack.new)) }
     ensures moves { OnOk result (Moves store.old store.new stack.old stack.new none none) }
     ensures stopped { IfErr result (IsStopped store.old.limit) }
+    ensures limit { store.new.limit ≡ store.old.limit }
 {
     let leaf = stored_literal(alloc, literal, store)?;
     push_leaf(alloc, leaf, stack, store)?;

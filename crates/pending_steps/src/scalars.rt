@@ -38,6 +38,7 @@ pub fn scalar_one(
     ensures moves { Reaches result (Moves store.old store.new stack.old stack.new none none) }
     ensures halted { IfErr result (IsHalted (record { place = place; op = Mon (ScalarOne f) }) 1
         store.old.limit (entries store.old stack.old)) }
+    ensures limit { store.new.limit ≡ store.old.limit }
 {
     make_room(alloc, stack, store)?;
     join_newest(alloc, f, place, stack, store)?;

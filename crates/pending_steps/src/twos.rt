@@ -43,6 +43,7 @@ pub fn scalar_two(
     ensures moves { Reaches result (Moves store.old store.new stack.old stack.new none none) }
     ensures halted { IfErr result (IsHalted (record { place = place; op = Dya (Scalar f) }) 2
         store.old.limit (entries store.old stack.old)) }
+    ensures limit { store.new.limit ≡ store.old.limit }
 {
     let fit = match newest_fit(stack) {
         Ok(fit) => fit,

@@ -70,6 +70,7 @@ pub fn choose_second(choice: &Choice, stack: &mut Stack, store: &mut Store) -> R
     ensures chosen { OnOk result (ChoosesSecond choice.now (second_shape stack.old)
         (entries store.old stack.old) (entries store.new stack.new)) }
     ensures moves { OnOk result (Moves store.old store.new stack.old stack.new none none) }
+    ensures limit { store.new.limit ≡ store.old.limit }
 {
     let_newest_go(stack, store);
     choose_newest(choice, stack, store)

@@ -41,6 +41,7 @@ pub fn select_one(
     ensures moves { Reaches result (Moves store.old store.new stack.old stack.new none none) }
     ensures halted { IfErr result (IsHaltedFrom origin (record { place = place; op = Mon f }) 1
         store.old.limit (entries store.old stack.old)) }
+    ensures limit { store.new.limit ≡ store.old.limit }
 {
     let choice = match choice_of_newest(f, origin, stack) {
         Ok(choice) => choice,

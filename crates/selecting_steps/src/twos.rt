@@ -49,6 +49,7 @@ pub fn select_fitting(
         → length stack.new ≡ length stack.old) }
     ensures halted { IfErr result (IsHaltedFrom origin (record { place = place; op = Dya f }) 2
         store.old.limit (entries store.old stack.old)) }
+    ensures limit { store.new.limit ≡ store.old.limit }
 {
     make_ready(alloc, stack, store)?;
     let choice = match choice_of_second(f, origin, stack, store) {

@@ -40,6 +40,7 @@ pub fn select_two(
     ensures moves { Reaches result (Moves store.old store.new stack.old stack.new none none) }
     ensures halted { IfErr result (IsHaltedFrom origin (record { place = place; op = Dya f }) 2
         store.old.limit (entries store.old stack.old)) }
+    ensures limit { store.new.limit ≡ store.old.limit }
 {
     if select_fitting(alloc, f, place, origin, stack, store)? {
         return Ok(());
@@ -64,6 +65,7 @@ fn overtake_newest(
     ensures moves { Reaches result (Moves store.old store.new stack.old stack.new none none) }
     ensures halted { IfErr result (IsHaltedFrom origin (record { place = place; op = Dya Take }) 2
         store.old.limit (entries store.old stack.old)) }
+    ensures limit { store.new.limit ≡ store.old.limit }
 {
     let arguments = take_two(alloc, stack, store)?;
     let made = overtake(&arguments.left, &arguments.right, store);

@@ -22,4 +22,4 @@ drop_newest-requires-clause-held c = holds_entries c.loop-2.machine (go_beside c
 pub loop-2-preserved : goal.loop-2-preserved
 loop-2-preserved c =
     let dropped : Machine = record c.loop-2.machine { store = c.drop_newest.new.store; stack = c.drop_newest.new.stack } in
-    entry_gone_too c.args.machine.now c.loop-2.machine dropped c.loop-2.counter _ c.loop-2-test.true refl c.drop_newest.ensures.counts (record { turns = refl; begun = refl; traced = refl; costs = refl; origin = refl }) c.loop-2.invariant c.drop_newest.ensures.moves c.drop_newest.ensures.dropped
+    entry_gone_too c.args.machine.now c.loop-2.machine dropped c.loop-2.counter _ c.loop-2-test.true refl c.drop_newest.ensures.counts (record { turns = refl; begun = refl; traced = refl; costs = refl; origin = refl; limit = c.drop_newest.ensures.moves.follows.limit }) c.loop-2.invariant c.drop_newest.ensures.moves c.drop_newest.ensures.dropped

@@ -40,3 +40,6 @@ returns-clause-enters c =
     let settled : Machine = record c.args.machine.now { store = c.settle_entries.new.store; stack = c.settle_entries.new.stack } in
     IfOk-weaker c.begin.result _ _ (λ _ enters.
     settled_enters c.args.machine.now settled c.begin.new.machine c.args.header.now (labels_in c.args.body.now) c.args.arguments refl (keeps c.args.machine.now settled refl refl c.settle_entries.ensures.moves) c.settle_entries.ensures.means enters) c.begin.ensures.enters
+
+pub returns-clause-pending : goal.returns-clause-pending
+returns-clause-pending c = IfOk-weaker c.begin.result _ _ (λ _ _. omega (arith, c.if-depth-ge-MOST_CALLS.false, c.depth.ensures.depth)) c.begin.ensures.enters

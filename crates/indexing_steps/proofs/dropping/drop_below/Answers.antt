@@ -18,4 +18,5 @@ pub returns : goal.returns
 returns c = record {
   dropped = IfOk-weaker c.push.result _ _ (λ _ is.
       dropped_below c.args.store.now c.drop_many.new.store c.args.stack.now c.pop.new.self c.drop_many.new.stack c.push.new.self c.in-Some.newest c.args.count c.in-Some.ensures.taken is c.requires.lawful c.requires.held c.drop_many.ensures.dropped) c.push.ensures.ok;
+  limit = c.drop_many.ensures.dropped.moves.follows.limit;
 }

@@ -16,6 +16,7 @@ use Rattle.made_picks.specs.Picks.{positions_of, elements_named}
 use Rattle.leaf_names.specs.Variables.{array_of}
 use Rattle.pending_steps.specs.declared.halts.Halt.{Halt}
 use Rattle.leaf_steps.specs.Origins.{IsHaltedFrom}
+use Rattle.leaf_steps.proofs.MakingLemmas.{made_by}
 use Rattle.leaf_steps.proofs.StepLemmas.{reaches}
 use Rattle.indexing_steps.specs.Operands.{positions_in, arrays_of}
 use Rattle.indexing_steps.proofs.OperandLemmas.{positions_lawful}
@@ -135,3 +136,14 @@ returns-clause-halted c =
     subst (λ (a : Answer). IsMadeBy (Fetched store most) store c.gather.new.store a (Err c.in-Err.fault)) same c.in-Err.ensures.made in
     subst (λ (w : Halt). IsHaltedFrom c.args.origin (record { place = c.args.place; op = op.Index c.args.mask.now }) (1 + positions_in c.args.mask.now) store.limit (entries store stack) w) (sym c.fault_halt.ensures)
     (fault_halts c.args.origin c.args.mask.now c.args.place store c.gather.new.store most stack array leaves c.in-Err.fault l c.requires.arrays made)
+
+pub returns-in-Ok-clause-limit : goal.returns-in-Ok-clause-limit
+returns-in-Ok-clause-limit c =
+    c.put_gathered.ensures.limit ∙ (made_by c.args.store.now c.gather.new.store _ _ c.gather.result c.gather.ensures.made).follows.limit
+
+pub returns-in_err-put_gathered-in-Ok-clause-limit : goal.returns-in_err-put_gathered-in-Ok-clause-limit
+returns-in_err-put_gathered-in-Ok-clause-limit c =
+    c.put_gathered.ensures.limit ∙ (made_by c.args.store.now c.gather.new.store _ _ c.gather.result c.gather.ensures.made).follows.limit
+
+pub returns-clause-limit : goal.returns-clause-limit
+returns-clause-limit c = (made_by c.args.store.now c.gather.new.store _ _ c.gather.result c.gather.ensures.made).follows.limit

@@ -16,4 +16,5 @@ returns c = record {
   puts = IfOk-weaker c.drop_below.result _ _ (λ _ dropped.
       put_over c.args.store.now c.drop_below.new.store c.args.stack.now c.push_leaf.new.stack c.drop_below.new.stack c.args.leaf _ c.in_ok-push_leaf.ensures.puts
       (subst (λ (n : ℕ). DropsBelow c.args.store.now c.drop_below.new.store c.push_leaf.new.stack c.drop_below.new.stack (1 + n)) c.count_there-count.ensures dropped)) c.drop_below.ensures.dropped;
+  limit = c.drop_below.ensures.limit;
 }

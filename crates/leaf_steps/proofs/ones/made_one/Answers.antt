@@ -1,4 +1,4 @@
-use Rattle.std.proofs.Common.{ℤ, [], ◌∷◌, refl, subst}
+use Rattle.std.proofs.Common.{ℤ, [], ◌∷◌, refl, subst, ◌∙◌}
 use Rattle.std.proofs.lemmas.Int.{to_z-of_z}
 use mir.Syntax.{w128}
 use Rattle.drag_along.specs.Nodes.{named_by_leaf}
@@ -35,4 +35,4 @@ returns c =
     let s = made_step c.args.origin (record { place = c.args.place; op = Mon c.args.f }) 1 c.args.store.now c.take_one.new.store c.value_of_one-made.new.store c.release.new.store
     c.args.stack.now c.take_one.new.stack c.put_made.new.stack (b ∷ []) (named_by_leaf c.in_ok-b.b) (monadic_value c.args.origin c.args.f b) c.value_of_one-made.result c.put_made.result refl
     c.requires.held c.in_ok-b.ensures.takes.taken made c.release.ensures.follows c.put_made.ensures (gives_one c.args.origin c.args.f c.args.place b) in
-    record { step = s.step; moves = s.moves; halted = s.halted }
+    record { step = s.step; moves = s.moves; halted = s.halted; limit = c.release.ensures.follows.limit ∙ c.value_of_one-made.ensures.follows.limit ∙ c.take_one.ensures.limit }

@@ -1,4 +1,4 @@
-use Rattle.std.proofs.Common.{ℤ, pos, [], ◌∷◌, refl}
+use Rattle.std.proofs.Common.{ℤ, pos, [], ◌∷◌, refl, ◌∙◌}
 use Rattle.leaf_names.specs.Variables.{array_of}
 use Rattle.apl_model.specs.Product.{inner}
 use Rattle.apl_compile.specs.declared.codes.Op.TheVariants.{Inner}
@@ -32,4 +32,4 @@ returns c =
     let s = λ (origin : ℤ). made_step origin (record { place = c.args.place; op = Inner c.args.f c.args.g }) 2 c.args.store.now c.take_two.new.store c.multiplied-made.new.store c.release.new.store
     c.args.stack.now c.take_two.new.stack c.put_made.new.stack (b ∷ a ∷ []) (named_by_arguments c.in_ok-arguments.arguments) (inner c.args.f c.args.g a b) c.multiplied-made.result c.put_made.result refl
     c.requires.held c.in_ok-arguments.ensures.takes.taken c.multiplied-made.ensures c.release.ensures c.put_made.ensures (gives_inner origin c.args.f c.args.g c.args.place a b) in
-    record { step = λ origin. (s origin).step; moves = (s (pos 0)).moves; halted = λ origin. (s origin).halted }
+    record { step = λ origin. (s origin).step; moves = (s (pos 0)).moves; halted = λ origin. (s origin).halted; limit = c.release.ensures.limit ∙ c.multiplied-made.ensures.follows.limit ∙ c.take_two.ensures.limit }

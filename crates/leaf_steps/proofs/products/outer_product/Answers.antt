@@ -1,4 +1,4 @@
-use Rattle.std.proofs.Common.{◌≡◌, ℤ, pos, [], ◌∷◌, Err, refl, sym, subst}
+use Rattle.std.proofs.Common.{◌≡◌, ℤ, pos, [], ◌∷◌, Err, refl, sym, subst, ◌∙◌}
 use Rattle.apl_base.specs.declared.faults.ErrorKind.TheVariants as error
 use Rattle.array_store.specs.Stores.{StoreView}
 use Rattle.array_store.specs.Follows.{none}
@@ -37,4 +37,4 @@ returns-in-Err-Limit c =
     let s = λ (origin : ℤ). made_step origin (record { place = c.args.place; op = Outer c.args.f }) 2 c.args.store.now store store c.outer.new.store c.args.stack.now c.take_two.new.stack c.take_two.new.stack
     (b ∷ a ∷ []) (named_by_arguments c.in_ok-arguments.arguments) (outer c.args.f a b) (Err (made.Error error.Limit)) (Err (halt.Error error.Limit c.args.place)) refl
     c.requires.held c.in_ok-arguments.ensures.takes.taken (record { answers = is; follows = follows_same store none }) c.in-Err-Limit.ensures.released (refl, refl) (gives_outer origin c.args.f c.args.place a b) in
-    record { step = λ origin. tt; moves = (s (pos 0)).moves; halted = λ origin. (s origin).halted }
+    record { step = λ origin. tt; moves = (s (pos 0)).moves; halted = λ origin. (s origin).halted; limit = c.in-Err-Limit.ensures.released.limit ∙ c.take_two.ensures.limit }

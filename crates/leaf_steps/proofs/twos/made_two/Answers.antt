@@ -1,4 +1,4 @@
-use Rattle.std.proofs.Common.{ℤ, [], ◌∷◌, refl, subst}
+use Rattle.std.proofs.Common.{ℤ, [], ◌∷◌, refl, subst, ◌∙◌}
 use Rattle.std.proofs.lemmas.Int.{to_z-of_z}
 use mir.Syntax.{w128}
 use Rattle.leaf_names.specs.Variables.{array_of}
@@ -38,4 +38,4 @@ returns c =
     let s = made_step c.args.origin (record { place = c.args.place; op = Dya c.args.f }) 2 c.args.store.now c.take_two.new.store c.value_of_two-made.new.store c.release.new.store
     c.args.stack.now c.take_two.new.stack c.put_made.new.stack (b ∷ a ∷ []) (named_by_arguments c.in_ok-arguments.arguments) (dyadic_value c.args.origin c.args.f a b) c.value_of_two-made.result c.put_made.result refl
     c.requires.held c.in_ok-arguments.ensures.takes.taken made c.release.ensures c.put_made.ensures (gives_two c.args.origin c.args.f c.args.place a b) in
-    record { step = s.step; moves = s.moves; halted = s.halted }
+    record { step = s.step; moves = s.moves; halted = s.halted; limit = c.release.ensures.limit ∙ c.value_of_two-made.ensures.follows.limit ∙ c.take_two.ensures.limit }

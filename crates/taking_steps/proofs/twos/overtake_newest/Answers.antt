@@ -1,4 +1,4 @@
-use Rattle.std.proofs.Common.{[], ◌∷◌, refl}
+use Rattle.std.proofs.Common.{[], ◌∷◌, refl, ◌∙◌}
 use Rattle.leaf_names.specs.Variables.{array_of}
 use Rattle.apl_model.specs.declared.functions.DyaFn.TheVariants.{Take}
 use Rattle.apl_model.specs.Made.{take_or_pad}
@@ -38,4 +38,4 @@ returns c =
     (take_or_pad a b) c.overtake-made.result c.requires.held c.in_ok-arguments.ensures.takes.taken made c.release.ensures in
     let s = put_step c.args.origin (record { place = c.args.place; op = Dya Take }) 2 c.args.store.now c.release.new.store c.args.stack.now c.take_two.new.stack c.put_made.new.stack (b ∷ a ∷ [])
     (take_or_pad a b) c.overtake-made.result c.put_made.result refl g c.put_made.ensures (gives_two c.args.origin Take c.args.place a b) in
-    record { step = s.step; moves = s.moves; halted = s.halted }
+    record { step = s.step; moves = s.moves; halted = s.halted; limit = c.release.ensures.limit ∙ made.follows.limit ∙ c.take_two.ensures.limit }
