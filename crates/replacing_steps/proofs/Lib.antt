@@ -1,0 +1,9 @@
+pub mod WriteLemmas
+pub mod WalkLemmas
+pub mod SelectLemmas
+pub mod CheckLemmas
+pub mod VariableLemmas
+pub mod MachineLemmas
+pub mod PlacedLemmas
+pub mod FreeLemmas
+pub mod StepLemmas
