@@ -1,2 +1,4 @@
 pub mod Answers
+pub mod Calling
 pub mod Laws
+pub mod Running

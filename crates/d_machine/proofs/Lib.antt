@@ -1,0 +1,17 @@
+pub mod RunLemmas
+pub mod PerformLemmas
+pub mod AssignLemmas
+pub mod FinishLemmas
+pub mod Arrivals
+pub mod CodeLemmas
+pub mod LiteralLemmas
+pub mod TurnLemmas
+pub mod StatementLemmas
+pub mod OutputLemmas
+pub mod BranchLemmas
+pub mod ArgumentLemmas
+pub mod CallLemmas
+pub mod CallingLemmas
+pub mod LineLemmas
+pub mod SoundLemmas
+pub mod ReplaceLemmas
