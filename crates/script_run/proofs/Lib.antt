@@ -1,0 +1,5 @@
+pub mod SceneLemmas
+pub mod RunLemmas
+pub mod ItemLemmas
+pub mod OutlineLemmas
+pub mod LoopLemmas
