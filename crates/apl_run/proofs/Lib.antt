@@ -1,2 +1,6 @@
-mod Pieces
-mod Sends
+pub mod AnswerLemmas
+pub mod EndLemmas
+pub mod ScriptLemmas
+pub mod WordLemmas
+pub mod EndingLemmas
+pub mod ValueLemmas

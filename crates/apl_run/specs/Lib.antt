@@ -1,5 +1,5 @@
-pub mod Bytes
-pub mod Endings
-pub mod Immediate
+pub mod Answers
 pub mod Statuses
-pub mod Worked
+pub mod Traces
+pub mod Runs
+pub mod Workspaces

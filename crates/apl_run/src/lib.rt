@@ -1,12 +1,17 @@
-//! The top call: it reads a script from a source, writes what the script prints to a sink, and says how it ended.
+//! The top call: it reads the words and a script, runs the script, and says how the run ended and what it left.
 #![tactic(auto)]
 
-pub mod laws;
-mod print;
+mod descriptions;
+mod endings;
+mod laws;
 mod run;
+mod scripts;
 mod statuses;
-#[cfg(test)]
-mod tests;
+mod values;
+mod words;
 
+pub use apl_print::Cost;
+pub use laws::{long_is_refused, one_answer};
 pub use run::aplm;
-pub use statuses::{Cost, Ended, Status, Which, Workspace};
+pub use statuses::{Ended, Status, Which, Workspace};
+pub use values::Value;

@@ -1,8 +1,11 @@
-//! How a run ends.
+//! How a run ends, and what it leaves.
 
 ghost use Rattle.std.specs.Prelude.{◌≡◌};
 
 use apl_base::{Cell, Refusal};
+use apl_print::Cost;
+use array_store::Store;
+use name_table::Names;
 
 /// A sink of the top call: that of the printed bytes, or that of the trace.
 #[derive(Clone, Copy, Debug, PartialEq, Eq)]
@@ -55,22 +58,17 @@ impl Status {
     }
 }
 
-/// What a run leaves. `origin` is the least index of an axis.
-#[derive(Clone, Copy, Debug, PartialEq, Eq)]
+/// The variables that a run leaves: their names, the store of their cells, and the origin in force.
+#[derive(Drop)]
 pub struct Workspace {
+    pub store: Store,
+    pub names: Names,
     pub origin: Cell,
 }
 
-/// The operations that a statement took: its line, its number among the statements begun, and their count.
-#[derive(Clone, Copy, Debug, PartialEq, Eq)]
-pub struct Cost {
-    pub line: u32,
-    pub begun: u64,
-    pub ops: u64,
-}
-
-/// The end of a run, what it leaves, and its costs where they were asked for.
-#[derive(Debug, Drop)]
+/// The end of a run, what it leaves, and what its statements took where a trace was asked for, in the order in which they
+/// ended.
+#[derive(Drop)]
 pub struct Ended {
     pub status: Status,
     pub ws: Workspace,
