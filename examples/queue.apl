@@ -1,0 +1,28 @@
+⍝ A queue in a ring of five cells: HEAD is the place of the first, from 0 on.
+RING←5⍴0
+HEAD←0
+COUNT←0
+∇PUT X
+→(COUNT=5)/FULL
+RING[1+5|HEAD+COUNT]←X
+COUNT←COUNT+1
+→0
+FULL:'THE QUEUE IS FULL'
+∇
+∇X←TAKE
+X←RING[1+HEAD]
+HEAD←5|HEAD+1
+COUNT←COUNT-1
+∇
+PUT 7
+PUT 8
+PUT 9
+TAKE
+TAKE
+PUT 10
+PUT 11
+PUT 12
+PUT 13
+PUT 14
+RING
+TAKE+TAKE
