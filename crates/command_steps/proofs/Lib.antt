@@ -2,4 +2,4 @@ mod Joins
 mod Gathers
 mod Erasures
 mod Names
-mod Parts
+mod Fronts

@@ -1,6 +1,6 @@
 use Rattle.std.proofs.Common.{rules, subst, ◌≡◌, encode_utf8_all}
 use Rattle.apl_outside.specs.Bytes.{GainsPart}
-use Rattle.command_steps.proofs.Parts.{prefix-alone}
+use Rattle.command_steps.proofs.Fronts.{prefix-alone}
 use Rattle.command_steps.specs.Obeyed.{line_of_names}
 use Rattle.command_steps.proofs.lines.write_names.Goals as goal
 
