@@ -1,20 +1,17 @@
 -- What an instruction answers, by what the machine's step answers.
-use Rattle.std.proofs.Common.{◌≡◌, ℕ, ◌≤◌, length, Ok, Err, sym, ap, subst, ◌∙◌, arith}
+use Rattle.std.proofs.Common.{◌≡◌, Ok, Err, sym, ap, subst, ◌∙◌}
 use Rattle.std.specs.Prelude.{Result, IsErrAnd, IsErrOf, Bool, true, false}
-use Rattle.apl_compile.specs.declared.codes.Op.{Op}
 use Rattle.array_store.specs.Follows.{none}
 use Rattle.pending_steps.specs.declared.halts.Halt.{Halt}
 use Rattle.pending_steps.specs.declared.halts.Halt.TheVariants as halt
 use Rattle.pending_steps.specs.Steps.{OnError, Reaches}
 use Rattle.machine_state.specs.declared.machines.Machine.{Machine}
 use Rattle.machine_state.specs.StandsFor.{IsLawfulMachine}
-use Rattle.machine_state.specs.Steps.{pending, Keeps}
+use Rattle.machine_state.specs.Steps.{Keeps}
 use Rattle.d_machine.specs.declared.answers.Stop.TheVariants as stop
 use Rattle.d_machine.specs.declared.breaks.Break.{Break}
 use Rattle.d_machine.specs.declared.breaks.Break.TheVariants as break
 use Rattle.d_machine.specs.Running.{UnlessCutOff, break_of}
-use Rattle.entry_steps.specs.Changing.{IsReady}
-use Rattle.entry_steps.proofs.EntryLemmas.{as_many_pending}
 
 -- an answer that is this error is so
 pub err_so : {A E : Type 0} (P : Result A E → Type 0) (r : Result A E) (e : E) → IsErrAnd r (λ b. b ≡ e) → P (Err e) → P r
@@ -49,7 +46,3 @@ true_false t is_true is_false = cc
 -- an error that is this one
 pub err_of : {A E : Type 0} (r : Result A E) (h e : E) → r ≡ Err h → h ≡ e → IsErrOf r e
 err_of r h e was is = was ∙ ap (λ x. Err x) is
-
--- at least those below are there
-pub low_ready : (m : Machine) (base : ℕ) (what : Op) → IsReady what base (pending m) → base ≤ length m.stack
-low_ready m base what r = omega (arith, as_many_pending m r.below r.mine r.before.all, r.number)

@@ -55,18 +55,9 @@ pub(crate) fn perform<O: Sink, T: Sink>(
         | Op::Red { .. }
         | Op::Outer { .. }
         | Op::Inner { .. }
-        | Op::Index { .. } => {
-            change_entries(instruction, machine)?;
-            Ok(to)
-        }
-        Op::Asg { name } => {
-            machine.assign(name)?;
-            Ok(to)
-        }
-        Op::Iasg { name, mask } => {
-            replace(machine, name, mask.as_slice(), instruction.place)?;
-            Ok(to)
-        }
+        | Op::Index { .. } => change_entries(instruction, machine)?,
+        Op::Asg { name } => machine.assign(name)?,
+        Op::Iasg { name, mask } => replace(machine, name, mask.as_slice(), instruction.place)?,
         Op::Call {
             f,
             arguments,
@@ -74,21 +65,17 @@ pub(crate) fn perform<O: Sink, T: Sink>(
         } => {
             let place = instruction.place;
             call(program, f, *arguments, *whole, place, machine, out, trace)?;
-            Ok(to)
         }
-        Op::Show => {
-            show(machine, out)?;
-            Ok(to)
-        }
+        Op::Show => show(machine, out)?,
         Op::Print => {
             // A call may have left no value.
-            if machine.stack.len() == base {
-                return Ok(Flow::Onwards);
+            if machine.stack.len() > base {
+                print(machine, out)?;
             }
-            print(machine, out)?;
-            Ok(Flow::Onwards)
+            return Ok(Flow::Onwards);
         }
-        Op::Goto => Ok(branch(machine, instruction.place)?),
+        Op::Goto => return Ok(branch(machine, instruction.place)?),
         Op::End => unreachable!(),
     }
+    Ok(to)
 }

@@ -5,7 +5,7 @@ mod Call
 mod RunLines
 use Rattle.d_machine.proofs.+run.Answers.Turn.{turn-returns-then-machine-eq0-clause-takes, turn-returns-then-machine-eq0-clause-lawful, turn-returns-then-machine-eq0-clause-turns, turn-overflow_sub-machine, turn-overflow_add-machine, turn-end-requires, turn-end-requires-in-Err-Error, turn-returns-in-Ok-end-clause-takes, turn-returns-in-Ok-end-clause-below, turn-returns-in-Ok-end-clause-lawful, turn-returns-in-Ok-end-clause-turns, turn-returns-in-Ok-end-clause-depth, turn-returns-in-Err-clause-takes, turn-returns-in-Err-clause-lawful, turn-returns-in-Err-clause-turns, turn-returns-in-Ok-end-2-clause-takes, turn-returns-in-Ok-end-2-clause-lawful, turn-returns-in-Ok-end-2-clause-turns, turn-returns-in-Err-end-clause-takes, turn-returns-in-Err-end-clause-lawful, turn-returns-in-Err-end-clause-turns, turn-returns-in-Err-Stop-clause-takes, turn-returns-in-Err-Stop-clause-lawful, turn-returns-in-Err-Stop-clause-turns}
 use Rattle.d_machine.proofs.+run.Answers.RunCode.{run_code-loop-instruction-init, run_code-finish-requires-clause-base, run_code-finish-requires-clause-one, run_code-finish-requires-clause-below, run_code-returns-in_err-finish-clause-runs, run_code-returns-in_err-finish-clause-lawful, run_code-returns-then-matches-clause-runs, run_code-returns-then-matches-clause-below, run_code-returns-then-matches-clause-lawful, run_code-returns-then-matches-clause-depth, run_code-perform-requires, run_code-returns-in_err-to-clause-runs, run_code-returns-in_err-to-clause-lawful, run_code-loop-instruction-preserved}
-use Rattle.d_machine.proofs.+run.Answers.Perform.{perform-returns-in_ok-change_entries-in-Lit-clause-call, perform-returns-in_ok-change_entries-in-Lit-clause-answers, perform-returns-in_ok-change_entries-in-Lit-clause-lawful, perform-returns-in_ok-change_entries-in-Lit-clause-stays, perform-returns-in_err-change_entries-in-Lit-clause-answers, perform-returns-in_err-change_entries-in-Lit-clause-stays, perform-returns-in_err-change_entries-in-Lit-clause-lawful, perform-returns-in_ok-assign-in-Asg-clause-call, perform-returns-in_ok-assign-in-Asg-clause-answers, perform-returns-in_ok-assign-in-Asg-clause-lawful, perform-returns-in_ok-assign-in-Asg-clause-stays, perform-returns-in_err-assign-in-Asg-clause-answers, perform-returns-in_err-assign-in-Asg-clause-stays, perform-returns-in_err-assign-in-Asg-clause-lawful, perform-show-requires-clause-operand, perform-show-requires-clause-lawful, perform-returns-in_ok-show-in-Show-clause-call, perform-returns-in_ok-show-in-Show-clause-answers, perform-returns-in_ok-show-in-Show-clause-stays, perform-returns-in_ok-show-in-Show-clause-lawful, perform-returns-in_err-show-in-Show-clause-answers, perform-returns-in_err-show-in-Show-clause-stays, perform-returns-in_err-show-in-Show-clause-lawful, perform-print-requires-clause-operand, perform-print-requires-clause-lawful, perform-returns-in_ok-print-in-Print-clause-call, perform-returns-in_ok-print-in-Print-clause-answers, perform-returns-in_ok-print-in-Print-clause-stays, perform-returns-in_ok-print-in-Print-clause-lawful, perform-returns-in_err-print-in-Print-clause-answers, perform-returns-in_err-print-in-Print-clause-stays, perform-returns-in_err-print-in-Print-clause-lawful, perform-branch-machine-requires-clause-operand, perform-branch-machine-requires-clause-lawful, perform-returns-in_ok-branch-in-Goto-clause-call, perform-returns-in_ok-branch-in-Goto-clause-answers, perform-returns-in_ok-branch-in-Goto-clause-lawful, perform-returns-in_err-branch-in-Goto-clause-answers, perform-returns-in_err-branch-in-Goto-clause-lawful, perform-returns-in_err-branch-in-Goto-clause-stays, perform-returns-in_ok-branch-in-Goto-clause-stays, perform-returns-in_ok-call-in-Call-clause-answers, perform-returns-in_err-call-in-Call-clause-answers, perform-replace-requires-clause-operands, perform-replace-requires-clause-lawful, perform-returns-in_ok-replace-in-Iasg-clause-answers, perform-returns-in_ok-replace-in-Iasg-clause-lawful, perform-returns-in_ok-replace-in-Iasg-clause-stays, perform-returns-in_ok-replace-in-Iasg-clause-call, perform-returns-in_err-replace-in-Iasg-clause-answers, perform-returns-in_err-replace-in-Iasg-clause-stays, perform-returns-in_err-replace-in-Iasg-clause-lawful}
+use Rattle.d_machine.proofs.+run.Answers.Perform.{perform-returns-in_ok-change_entries-in-Lit-clause-call, perform-returns-in_ok-change_entries-in-Lit-clause-answers, perform-returns-in_ok-change_entries-in-Lit-clause-lawful, perform-returns-in_ok-change_entries-in-Lit-clause-stays, perform-returns-in_err-change_entries-in-Lit-clause-answers, perform-returns-in_err-change_entries-in-Lit-clause-stays, perform-returns-in_err-change_entries-in-Lit-clause-lawful, perform-returns-in_ok-assign-in-Asg-clause-call, perform-returns-in_ok-assign-in-Asg-clause-answers, perform-returns-in_ok-assign-in-Asg-clause-lawful, perform-returns-in_ok-assign-in-Asg-clause-stays, perform-returns-in_err-assign-in-Asg-clause-answers, perform-returns-in_err-assign-in-Asg-clause-stays, perform-returns-in_err-assign-in-Asg-clause-lawful, perform-show-requires-clause-operand, perform-show-requires-clause-lawful, perform-returns-in_ok-show-in-Show-clause-call, perform-returns-in_ok-show-in-Show-clause-answers, perform-returns-in_ok-show-in-Show-clause-stays, perform-returns-in_ok-show-in-Show-clause-lawful, perform-returns-in_err-show-in-Show-clause-answers, perform-returns-in_err-show-in-Show-clause-stays, perform-returns-in_err-show-in-Show-clause-lawful, perform-print-requires-clause-operand, perform-print-requires-clause-lawful, perform-returns-in_ok-print-in-Print-clause-call, perform-returns-in_ok-print-in-Print-clause-answers, perform-returns-in_ok-print-in-Print-clause-stays, perform-returns-in_ok-print-in-Print-clause-lawful, perform-returns-in_err-print-in-Print-clause-answers, perform-returns-in_err-print-in-Print-clause-stays, perform-returns-in_err-print-in-Print-clause-lawful, perform-branch-machine-requires-clause-operand, perform-branch-machine-requires-clause-lawful, perform-returns-in-Goto-clause-call, perform-returns-in-Goto-clause-answers, perform-returns-in-Goto-clause-lawful, perform-returns-in_err-branch-in-Goto-clause-answers, perform-returns-in_err-branch-in-Goto-clause-lawful, perform-returns-in_err-branch-in-Goto-clause-stays, perform-returns-in-Goto-clause-stays, perform-returns-in_ok-call-in-Call-clause-answers, perform-returns-in_err-call-in-Call-clause-answers, perform-replace-requires-clause-operands, perform-replace-requires-clause-lawful, perform-returns-in_ok-replace-in-Iasg-clause-answers, perform-returns-in_ok-replace-in-Iasg-clause-lawful, perform-returns-in_ok-replace-in-Iasg-clause-stays, perform-returns-in_ok-replace-in-Iasg-clause-call, perform-returns-in_err-replace-in-Iasg-clause-answers, perform-returns-in_err-replace-in-Iasg-clause-stays, perform-returns-in_err-replace-in-Iasg-clause-lawful}
 use Rattle.d_machine.proofs.+run.Answers.Call.{call-refuse-requires, call-returns-in_default-clause-answers, call-returns-in_default-clause-stays, call-returns-in_default-clause-lawful, call-unreachable-requires, call-unreachable-unreachable, call-unreachable-requires-in_default-item, call-unreachable-unreachable-in_default-item, call-enter-requires-clause-arguments, call-enter-requires-clause-operands, call-enter-requires-clause-lawful, call-enter-requires-clause-distinct, call-returns-in_err-enter-clause-answers, call-returns-in_err-enter-clause-stays, call-returns-in_err-enter-clause-lawful, call-returns-in_err-enter-clause-call, call-run_lines-requires, call-returns-in_err-run_lines-clause-answers, call-returns-in_err-run_lines-clause-stays, call-returns-in_err-run_lines-clause-lawful, call-returns-in_err-run_lines-clause-call, call-leave-requires-clause-frame, call-leave-requires-clause-lawful, call-returns-in_default-leave-clause-answers, call-returns-in_default-leave-clause-stays, call-returns-then-given-clause-answers, call-returns-then-given-clause-stays, call-returns-then-given-clause-lawful, call-returns-then-given-clause-call, call-returns-clause-answers, call-returns-clause-stays, call-returns-clause-lawful}
 use Rattle.d_machine.proofs.+run.Answers.RunLines.{run_lines-returns-in_default-checked_add-clause-lines, run_lines-unreachable-requires, run_lines-turn-requires, run_lines-returns-in_err-to-clause-lines, run_lines-loop-at-smaller, run_lines-loop-at-preserved, run_lines-returns-clause-lines}
 use Rattle.d_machine.proofs.+run.Goals as goal
@@ -229,14 +229,14 @@ performing::perform-branch-machine-requires-clause-operand = perform-branch-mach
 pub performing::perform-branch-machine-requires-clause-lawful : goal.performing::perform-branch-machine-requires-clause-lawful
 performing::perform-branch-machine-requires-clause-lawful = perform-branch-machine-requires-clause-lawful
 
-pub performing::perform-returns-in_ok-branch-in-Goto-clause-call : goal.performing::perform-returns-in_ok-branch-in-Goto-clause-call
-performing::perform-returns-in_ok-branch-in-Goto-clause-call = perform-returns-in_ok-branch-in-Goto-clause-call
+pub performing::perform-returns-in-Goto-clause-call : goal.performing::perform-returns-in-Goto-clause-call
+performing::perform-returns-in-Goto-clause-call = perform-returns-in-Goto-clause-call
 
-pub performing::perform-returns-in_ok-branch-in-Goto-clause-answers : goal.performing::perform-returns-in_ok-branch-in-Goto-clause-answers
-performing::perform-returns-in_ok-branch-in-Goto-clause-answers = perform-returns-in_ok-branch-in-Goto-clause-answers
+pub performing::perform-returns-in-Goto-clause-answers : goal.performing::perform-returns-in-Goto-clause-answers
+performing::perform-returns-in-Goto-clause-answers = perform-returns-in-Goto-clause-answers
 
-pub performing::perform-returns-in_ok-branch-in-Goto-clause-lawful : goal.performing::perform-returns-in_ok-branch-in-Goto-clause-lawful
-performing::perform-returns-in_ok-branch-in-Goto-clause-lawful = perform-returns-in_ok-branch-in-Goto-clause-lawful
+pub performing::perform-returns-in-Goto-clause-lawful : goal.performing::perform-returns-in-Goto-clause-lawful
+performing::perform-returns-in-Goto-clause-lawful = perform-returns-in-Goto-clause-lawful
 
 pub performing::perform-returns-in_err-branch-in-Goto-clause-answers : goal.performing::perform-returns-in_err-branch-in-Goto-clause-answers
 performing::perform-returns-in_err-branch-in-Goto-clause-answers = perform-returns-in_err-branch-in-Goto-clause-answers
@@ -247,8 +247,8 @@ performing::perform-returns-in_err-branch-in-Goto-clause-lawful = perform-return
 pub performing::perform-returns-in_err-branch-in-Goto-clause-stays : goal.performing::perform-returns-in_err-branch-in-Goto-clause-stays
 performing::perform-returns-in_err-branch-in-Goto-clause-stays = perform-returns-in_err-branch-in-Goto-clause-stays
 
-pub performing::perform-returns-in_ok-branch-in-Goto-clause-stays : goal.performing::perform-returns-in_ok-branch-in-Goto-clause-stays
-performing::perform-returns-in_ok-branch-in-Goto-clause-stays = perform-returns-in_ok-branch-in-Goto-clause-stays
+pub performing::perform-returns-in-Goto-clause-stays : goal.performing::perform-returns-in-Goto-clause-stays
+performing::perform-returns-in-Goto-clause-stays = perform-returns-in-Goto-clause-stays
 
 pub performing::perform-returns-in_ok-call-in-Call-clause-answers : goal.performing::perform-returns-in_ok-call-in-Call-clause-answers
 performing::perform-returns-in_ok-call-in-Call-clause-answers = perform-returns-in_ok-call-in-Call-clause-answers

@@ -17,7 +17,7 @@ use Rattle.entry_steps.proofs.CountLemmas.{counts_show}
 use Rattle.entry_steps.proofs.EntryLemmas.{Counts, not_computed}
 use Rattle.indexing_steps.specs.Operands.{positions_in}
 use Rattle.d_machine.proofs.ReplaceLemmas.{counts_replace, replace_depth, replace_halts, replace_performs}
-use Rattle.d_machine.proofs.PerformLemmas.{err_of, err_so, lawful_error, low_ready, unless_always}
+use Rattle.d_machine.proofs.PerformLemmas.{err_of, err_so, lawful_error, unless_always}
 use Rattle.d_machine.proofs.RunLemmas.{count_of_run, entries_perform, halts, reached_error, same_call, same_turns, stays_counted}
 use Rattle.d_machine.proofs.BranchLemmas.{branch_halts, branch_performs, counts_branch}
 use Rattle.d_machine.proofs.OutputLemmas.{print_halts, print_performs, show_halts, show_performs, shown_scene, stays_shown}
@@ -151,8 +151,7 @@ perform-returns-in_err-show-in-Show-clause-lawful g t c = unless_always c.from_r
 
 pub perform-print-requires-clause-operand : goal.performing::perform-print-requires-clause-operand
 perform-print-requires-clause-operand g t c =
-    let low = low_ready c.args.machine.now c.args.base c.args.instruction.now.op c.requires.ready in
-    omega (arith, low, c.if-len-base.false, c.len.ensures.value)
+    omega (arith, c.if-len-base.true, c.len.ensures.value)
 
 pub perform-print-requires-clause-lawful : goal.performing::perform-print-requires-clause-lawful
 perform-print-requires-clause-lawful g t c = (none, c.requires.lawful)
@@ -162,8 +161,7 @@ perform-returns-in_ok-print-in-Print-clause-call g t c = same_call c.args.machin
 
 pub perform-returns-in_ok-print-in-Print-clause-answers : goal.performing::perform-returns-in_ok-print-in-Print-clause-answers
 perform-returns-in_ok-print-in-Print-clause-answers g t c =
-    let low = low_ready c.args.machine.now c.args.base c.args.instruction.now.op c.requires.ready in
-    let some : c.args.base + 1 ≤ length c.args.machine.now.stack = omega (arith, low, c.if-len-base.false, c.len.ensures.value) in
+    let some : c.args.base + 1 ≤ length c.args.machine.now.stack = omega (arith, c.if-len-base.true, c.len.ensures.value) in
     let old : Scene = scene c.args.machine.now (g.O.Sink.written c.args.out.now) (g.O.Sink.faults c.args.out.now) (g.T.Sink.written c.args.trace.now) (g.T.Sink.faults c.args.trace.now) in
     let new : Scene = shown_scene old c.print.new.machine (g.O.Sink.written c.print.new.out) (g.O.Sink.faults c.print.new.out) in
     at_op (λ (i : Instruction). AnswersInstruction c.args.program.now c.args.base i old new c.args.to (Ok flow.Onwards)) c.args.instruction.now op.Print c.in-Print.is
@@ -179,8 +177,7 @@ perform-returns-in_ok-print-in-Print-clause-lawful g t c = c.print.ensures.keeps
 
 pub perform-returns-in_err-print-in-Print-clause-answers : goal.performing::perform-returns-in_err-print-in-Print-clause-answers
 perform-returns-in_err-print-in-Print-clause-answers g t c =
-    let low = low_ready c.args.machine.now c.args.base c.args.instruction.now.op c.requires.ready in
-    let some : c.args.base + 1 ≤ length c.args.machine.now.stack = omega (arith, low, c.if-len-base.false, c.len.ensures.value) in
+    let some : c.args.base + 1 ≤ length c.args.machine.now.stack = omega (arith, c.if-len-base.true, c.len.ensures.value) in
     let old : Scene = scene c.args.machine.now (g.O.Sink.written c.args.out.now) (g.O.Sink.faults c.args.out.now) (g.T.Sink.written c.args.trace.now) (g.T.Sink.faults c.args.trace.now) in
     let new : Scene = shown_scene old c.print.new.machine (g.O.Sink.written c.print.new.out) (g.O.Sink.faults c.print.new.out) in
     let h = c.in_err-print-in-Print.field-0.0 in
@@ -206,19 +203,19 @@ perform-branch-machine-requires-clause-operand g t c =
 pub perform-branch-machine-requires-clause-lawful : goal.performing::perform-branch-machine-requires-clause-lawful
 perform-branch-machine-requires-clause-lawful g t c = (none, c.requires.lawful)
 
-pub perform-returns-in_ok-branch-in-Goto-clause-call : goal.performing::perform-returns-in_ok-branch-in-Goto-clause-call
-perform-returns-in_ok-branch-in-Goto-clause-call g t c = same_call c.args.machine.now c.branch-machine.new.machine c.branch-machine.ensures.run
+pub perform-returns-in-Goto-clause-call : goal.performing::perform-returns-in-Goto-clause-call
+perform-returns-in-Goto-clause-call g t c = same_call c.args.machine.now c.branch-machine.new.machine c.branch-machine.ensures.run
 
-pub perform-returns-in_ok-branch-in-Goto-clause-answers : goal.performing::perform-returns-in_ok-branch-in-Goto-clause-answers
-perform-returns-in_ok-branch-in-Goto-clause-answers g t c =
+pub perform-returns-in-Goto-clause-answers : goal.performing::perform-returns-in-Goto-clause-answers
+perform-returns-in-Goto-clause-answers g t c =
     let old : Scene = scene c.args.machine.now (g.O.Sink.written c.args.out.now) (g.O.Sink.faults c.args.out.now) (g.T.Sink.written c.args.trace.now) (g.T.Sink.faults c.args.trace.now) in
     let new : Scene = record old { machine = c.branch-machine.new.machine } in
     let further = c.in_ok-branch-in-Goto.field-0 in
     at_op (λ (i : Instruction). AnswersInstruction c.args.program.now c.args.base i old new c.args.to (Ok further)) c.args.instruction.now op.Goto c.in-Goto.is
     (branch_performs c.args.program.now c.args.base c.args.instruction.now.place old c.branch-machine.new.machine c.args.to further c.requires.lawful c.branch-machine.ensures.run c.branch-machine.ensures.keeps c.in_ok-branch-in-Goto.ensures.branches)
 
-pub perform-returns-in_ok-branch-in-Goto-clause-lawful : goal.performing::perform-returns-in_ok-branch-in-Goto-clause-lawful
-perform-returns-in_ok-branch-in-Goto-clause-lawful g t c = c.branch-machine.ensures.keeps.lawful none c.requires.lawful
+pub perform-returns-in-Goto-clause-lawful : goal.performing::perform-returns-in-Goto-clause-lawful
+perform-returns-in-Goto-clause-lawful g t c = c.branch-machine.ensures.keeps.lawful none c.requires.lawful
 
 pub perform-returns-in_err-branch-in-Goto-clause-answers : goal.performing::perform-returns-in_err-branch-in-Goto-clause-answers
 perform-returns-in_err-branch-in-Goto-clause-answers g t c =
@@ -237,8 +234,8 @@ perform-returns-in_err-branch-in-Goto-clause-stays g t c =
     let old : Scene = scene c.args.machine.now (g.O.Sink.written c.args.out.now) (g.O.Sink.faults c.args.out.now) (g.T.Sink.written c.args.trace.now) (g.T.Sink.faults c.args.trace.now) in
     stays_counted old c.branch-machine.new.machine (count_of_run c.args.machine.now c.branch-machine.new.machine c.branch-machine.ensures.run)
 
-pub perform-returns-in_ok-branch-in-Goto-clause-stays : goal.performing::perform-returns-in_ok-branch-in-Goto-clause-stays
-perform-returns-in_ok-branch-in-Goto-clause-stays g t c =
+pub perform-returns-in-Goto-clause-stays : goal.performing::perform-returns-in-Goto-clause-stays
+perform-returns-in-Goto-clause-stays g t c =
     let old : Scene = scene c.args.machine.now (g.O.Sink.written c.args.out.now) (g.O.Sink.faults c.args.out.now) (g.T.Sink.written c.args.trace.now) (g.T.Sink.faults c.args.trace.now) in
     stays_counted old c.branch-machine.new.machine (count_of_run c.args.machine.now c.branch-machine.new.machine c.branch-machine.ensures.run)
 
