@@ -17,16 +17,16 @@ use Rattle.machine_state.specs.StandsFor.{IsAtRest, beginning, variables}
 use Rattle.d_machine.specs.declared.answers.Stop.{Stop}
 use Rattle.d_machine.specs.declared.answers.Stop.TheVariants as stop
 use Rattle.d_machine.specs.Answers.{ComesTo, EndsAt, Scene, StopsBefore, TracesAll, TracesFirst, lines_of, statements_in}
-use Rattle.run_laws.specs.Runs.{run_of}
+use Rattle.run_laws.specs.ItemRuns.{run_of}
 use Rattle.script_run.specs.declared.ends.End.{End}
 use Rattle.script_run.specs.declared.ends.End.TheVariants as end
-use Rattle.script_run.specs.Comes.{Comes, ending_of, Keeps, RunsProgram}
+use Rattle.script_run.specs.ProgramRuns.{Comes, ending_of, Keeps, RunsProgram}
 use Rattle.script_run.proofs.SceneLemmas.{front-all, front-none, gains-nothing, rose-later}
 use Rattle.apl_run.specs.declared.statuses.Status.{Status}
 use Rattle.apl_run.specs.declared.statuses.Status.TheVariants as status
 use Rattle.apl_run.specs.declared.statuses.Which.TheVariants as which
 use Rattle.apl_run.specs.Answers.{Answer, ran, bytes_of, ended_of, ended_so, status_of, variables_of}
-use Rattle.apl_run.specs.Runs.{Describes, Ends, EndsSo, HasCause, IsCut, IsFresh, IsWhole, Leaves, RunsScript, whole, untraced, wanting, failed}
+use Rattle.apl_run.specs.Endings.{Describes, Ends, EndsSo, HasCause, IsCut, IsFresh, IsWhole, Leaves, RunsScript, whole, untraced, wanting, failed}
 use Rattle.apl_run.specs.Statuses.{IsLasting, IsNotRun}
 use Rattle.apl_run.specs.Traces.{all_lines, lines_of_globals, AreWritten, AreWrittenIf, GainsLines, IsFront}
 

@@ -19,12 +19,12 @@ use Rattle.d_machine.specs.declared.answers.Stop.TheVariants as stop
 use Rattle.d_machine.specs.Answers.{Scene, statements_in}
 use Rattle.d_machine.specs.Running.{scene}
 use Rattle.script_run.specs.declared.ends.End.{End}
-use Rattle.script_run.specs.Comes.{ending_of, IsCompiled, RunsProgram}
+use Rattle.script_run.specs.ProgramRuns.{ending_of, IsCompiled, RunsProgram}
 use Rattle.apl_run.specs.declared.statuses.Status.{Status}
 use Rattle.apl_run.specs.declared.statuses.Status.TheVariants as status
 use Rattle.apl_run.specs.declared.statuses.Which.TheVariants as which
 use Rattle.apl_run.specs.Answers.{Answer, ran, refused, IsAnswer, bytes_of, ended_so}
-use Rattle.apl_run.specs.Runs.{Describes, Ends, EndsSo, HasCause, IsCut, IsFresh, Leaves, RunsBytes, RunsScript}
+use Rattle.apl_run.specs.Endings.{Describes, Ends, EndsSo, HasCause, IsCut, IsFresh, Leaves, RunsBytes, RunsScript}
 use Rattle.apl_run.specs.Statuses.{IsEnd}
 use Rattle.apl_run.specs.Traces.{all_lines, IsFront}
 use Rattle.apl_run.proofs.AnswerLemmas.{long_is_refused, one_answer}

@@ -33,7 +33,7 @@ use Rattle.apl_run.specs.declared.statuses.Status.{Status}
 use Rattle.apl_run.specs.declared.statuses.Status.TheVariants as status
 use Rattle.apl_run.specs.declared.statuses.Which.TheVariants as which
 use Rattle.apl_run.specs.Answers.{Answer, ran, refused, ForAnswer, HasAnswer, IsAnswer, asks_trace, bytes_of, ended_of, script_bytes, status_of, variables_of}
-use Rattle.apl_run.specs.Runs.{Ends, EndsSo, HasCause, IsCut, IsFresh, IsWhole, Leaves, RunsBytes, RunsOptions, RunsWords}
+use Rattle.apl_run.specs.Endings.{Ends, EndsSo, HasCause, IsCut, IsFresh, IsWhole, Leaves, RunsBytes, RunsOptions, RunsWords}
 use Rattle.apl_run.specs.Statuses.{last_line, IsCutShort, IsEnd, IsLasting, IsUnread}
 use Rattle.apl_run.specs.Traces.{AreWrittenIf, GainsLast, IsFront, IsLast, Traces}
 use Rattle.apl_run.proofs.AnswerLemmas.{long_is_refused}

@@ -1,5 +1,5 @@
 pub mod Answers
 pub mod Statuses
 pub mod Traces
-pub mod Runs
+pub mod Endings
 pub mod Workspaces

@@ -11,9 +11,9 @@ ghost use Rattle.apl_model.specs.Tree.{Script as Tree};
 ghost use Rattle.apl_compile.specs.Program.{program_of};
 ghost use Rattle.d_machine.specs.Running.{scene};
 ghost use Rattle.machine_state.specs.declared.machines.Machine.{Machine as MachineView};
-ghost use Rattle.script_run.specs.Comes.{IsCompiled};
+ghost use Rattle.script_run.specs.ProgramRuns.{IsCompiled};
 ghost use Rattle.apl_run.specs.Answers.{refused, script_bytes};
-ghost use Rattle.apl_run.specs.Runs.{Describes, Ends, IsFresh, RunsBytes, RunsScript};
+ghost use Rattle.apl_run.specs.Endings.{Describes, Ends, IsFresh, RunsBytes, RunsScript};
 
 use crate::descriptions::write_globals;
 use crate::statuses::{Status, Which};

@@ -6,7 +6,7 @@ ghost use Rattle.apl_outside.specs.Faults.{Rose};
 ghost use Rattle.d_machine.specs.Running.{scene};
 ghost use Rattle.machine_state.specs.declared.machines.Machine.{Machine as MachineView};
 ghost use Rattle.apl_run.specs.Answers.{options_in, ReadsNothing};
-ghost use Rattle.apl_run.specs.Runs.{IsFresh, RunsOptions, RunsWords};
+ghost use Rattle.apl_run.specs.Endings.{IsFresh, RunsOptions, RunsWords};
 ghost use Rattle.apl_run.specs.Statuses.{HasRead as IsRead, IsUnread};
 
 use crate::scripts::{refuse_long, run_bytes, script_bytes};

@@ -9,7 +9,7 @@ use Rattle.apl_model.specs.Tree.{Tree, Slot, Positions, Statement, constant, var
 use Rattle.apl_compile.specs.declared.codes.Instruction.{Instruction}
 use Rattle.apl_compile.specs.declared.codes.Op.TheVariants as op
 use Rattle.apl_compile.specs.Code.{at, arguments, expression_code, slot_code, positions_code, own_code, ending, printing, whole_code, code_on}
-use Rattle.entry_steps.specs.Built.{HasLawfulLiterals}
+use Rattle.entry_steps.specs.Sound.{HasLawfulLiterals}
 
 both : (xs ys : List Instruction) → HasLawfulLiterals xs → HasLawfulLiterals ys → HasLawfulLiterals (xs ++ ys)
 both [] ys p q = q

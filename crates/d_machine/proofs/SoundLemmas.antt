@@ -11,7 +11,7 @@ use Rattle.apl_compile.specs.Program.{ProgramView, codes_in, codes_of, compiled}
 use Rattle.apl_compile.proofs.LawfulLemmas.{statements_are_lawful}
 use Rattle.standing.specs.Statements.{HasStatementAt}
 use Rattle.calling_steps.proofs.ProgramLemmas.{function_distinct}
-use Rattle.entry_steps.specs.Built.{IsSoundCode}
+use Rattle.entry_steps.specs.Sound.{IsSoundCode}
 use Rattle.d_machine.specs.Calling.{IsSoundProgram}
 use Rattle.d_machine.proofs.LiteralLemmas.{lawful_literals}
 

@@ -44,7 +44,7 @@ use Rattle.calling_steps.specs.declared.flows.Flow.{Flow}
 use Rattle.calling_steps.specs.Branches.{flow_of}
 use Rattle.calling_steps.specs.Calls.{EndsAll}
 use Rattle.d_machine.specs.Answers.{Scene, AgreesWith, ComesTo, RunsStatement, TellsOperations, operations}
-use Rattle.entry_steps.specs.Built.{HasLawfulLiterals, IsSoundCode}
+use Rattle.entry_steps.specs.Sound.{HasLawfulLiterals, IsSoundCode}
 use Rattle.d_machine.specs.Running.{IsAt, AnswersFlow, AreAllArrays, AreCallsAt, AreSameTurns, BreaksOff, IsCutOff, IsLawfulStop, LeavesStopped, Stays, TakesTurn, UnlessCutOff, last_line}
 use Rattle.d_machine.proofs.LiteralLemmas.{lawful_literals}
 use Rattle.d_machine.proofs.RunLemmas.{with_machine, at_beginning, at_variables, stays_counted, stays_then}

@@ -26,7 +26,7 @@ use Rattle.machine_state.specs.declared.machines.Machine.{Machine}
 use Rattle.machine_state.specs.Steps.{pending}
 use Rattle.calling_steps.specs.declared.flows.Flow.{Flow}
 use Rattle.calling_steps.specs.Calls.{labels_in, most_calls}
-use Rattle.entry_steps.specs.Built.{IsSoundCode}
+use Rattle.entry_steps.specs.Sound.{IsSoundCode}
 use Rattle.d_machine.specs.declared.breaks.Break.{Break}
 use Rattle.d_machine.specs.Answers.{Scene}
 use Rattle.d_machine.specs.Running.{AnswersInstruction, AreCallsAt, BreaksOff, IsAt, Stays}

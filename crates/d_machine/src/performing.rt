@@ -5,7 +5,7 @@ ghost use Rattle.array_store.specs.Follows.{none};
 ghost use Rattle.apl_compile.specs.declared.codes.Op.TheVariants as op;
 ghost use Rattle.machine_state.specs.StandsFor.{IsLawfulMachine};
 ghost use Rattle.machine_state.specs.Steps.{pending};
-ghost use Rattle.entry_steps.specs.Built.{HasLawfulLiteral};
+ghost use Rattle.entry_steps.specs.Sound.{HasLawfulLiteral};
 ghost use Rattle.d_machine.specs.Calling.{IsSoundProgram};
 ghost use Rattle.d_machine.specs.Running.{scene, AnswersInstruction, IsSameCall, Stays, UnlessCutOff};
 ghost use Rattle.entry_steps.specs.Changing.{IsReady};

@@ -6,7 +6,7 @@ ghost use Rattle.drag_along.specs.Meaning.{Meaning};
 ghost use Rattle.pending_steps.specs.Steps.{IsNotComputed, Reaches};
 ghost use Rattle.machine_state.specs.StandsFor.{IsLawfulMachine};
 ghost use Rattle.machine_state.specs.Steps.{pending, IsSameRun, Keeps};
-ghost use Rattle.entry_steps.specs.Built.{IsSoundCode};
+ghost use Rattle.entry_steps.specs.Sound.{IsSoundCode};
 ghost use Rattle.d_machine.specs.Calling.{IsSoundProgram};
 ghost use Rattle.d_machine.specs.Running.{scene, AreAllArrays, RunsCode, UnlessCutOff};
 

@@ -4,7 +4,7 @@ ghost use Rattle.std.specs.Prelude.{◌≡◌, ◌+◌, ◌-◌, ◌^◌, ◌≤
 ghost use Rattle.array_store.specs.Follows.{none};
 ghost use Rattle.machine_state.specs.StandsFor.{IsLawfulMachine};
 ghost use Rattle.machine_state.specs.Steps.{pending};
-ghost use Rattle.entry_steps.specs.Built.{IsSoundCode};
+ghost use Rattle.entry_steps.specs.Sound.{IsSoundCode};
 ghost use Rattle.d_machine.specs.Calling.{IsSoundProgram};
 ghost use Rattle.d_machine.specs.Running.{scene, AreAllArrays, AreSameTurns, EndIsCutOff, EntersEnd, Stays, TakesTurn, TellsSince, UnlessCutOff};
 

@@ -5,7 +5,7 @@ ghost use Rattle.array_store.specs.Follows.{none};
 ghost use Rattle.pending_steps.specs.Steps.{Reaches};
 ghost use Rattle.machine_state.specs.StandsFor.{IsLawfulMachine};
 ghost use Rattle.machine_state.specs.Steps.{pending, IsSameRun, Keeps};
-ghost use Rattle.entry_steps.specs.Built.{ChangesEntries, HasLawfulLiteral};
+ghost use Rattle.entry_steps.specs.Sound.{ChangesEntries, HasLawfulLiteral};
 ghost use Rattle.entry_steps.specs.Changing.{IsReady, ChangesAll, IsHaltedBefore};
 
 use crate::ones::{monadic, reduce};

@@ -18,7 +18,7 @@ use Rattle.apl_model.specs.Printed.{array_text}
 use Rattle.apl_model.specs.Tree.{Definition, Item, statement_item, command_item, definition_item}
 use Rattle.apl_model.specs.Whole.{Answer, is_empty, is_text}
 use Rattle.apl_model.proofs.Agreement.{option-same, options-same, runs_over_values_agree}
-use Rattle.run_laws.specs.Runs.{behind, from_here, go_on, run_of, RunsBehind, RunsGrow, RunsJoined}
+use Rattle.run_laws.specs.ItemRuns.{behind, from_here, go_on, run_of, RunsBehind, RunsGrow, RunsJoined}
 
 -- ---- each of these does the same behind what was printed and ended before
 

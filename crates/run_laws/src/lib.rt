@@ -2,7 +2,7 @@
 //! before, it takes nothing of either back, and a run of all items is that of the first ones and then of the others.
 #![tactic(auto)]
 
-ghost use Rattle.run_laws.specs.Runs.{RunsBehind, RunsGrow, RunsJoined};
+ghost use Rattle.run_laws.specs.ItemRuns.{RunsBehind, RunsGrow, RunsJoined};
 
 /// A run does the same whatever was printed and ended before, behind which it prints and enters what ends.
 pub fn runs_behind()

@@ -30,10 +30,10 @@ use Rattle.d_machine.specs.declared.answers.Stop.{Stop}
 use Rattle.d_machine.specs.declared.answers.Stop.TheVariants as stop
 use Rattle.d_machine.specs.Answers.{AgreesWith, ComesTo, EndsAt, RunsStatement, Scene, StopsBefore, TellsOperations, lines_of, operations, statements_in}
 use Rattle.d_machine.specs.Running.{scene}
-use Rattle.run_laws.specs.Runs.{from_here, run_of, Grows}
+use Rattle.run_laws.specs.ItemRuns.{from_here, run_of, Grows}
 use Rattle.script_run.specs.declared.ends.End.{End}
 use Rattle.script_run.specs.declared.ends.End.TheVariants as end
-use Rattle.script_run.specs.Comes.{Comes, ending_of, Keeps, RunsCommand, RunsLine, stop_of}
+use Rattle.script_run.specs.ProgramRuns.{Comes, ending_of, Keeps, RunsCommand, RunsLine, stop_of}
 use Rattle.script_run.proofs.SceneLemmas.{front-all, front-behind, front-none, gains-nothing, keeps-then, rose-later, stops-earlier}
 use Rattle.apl_outside.proofs.Parts.{gains_then}
 use Rattle.std.proofs.lemmas.Str.{encodes-append}

@@ -13,11 +13,11 @@ use Rattle.machine_state.specs.StandsFor.{IsAtRest, beginning}
 use Rattle.d_machine.specs.declared.answers.Stop.{Stop}
 use Rattle.d_machine.specs.declared.answers.Stop.TheVariants as stop
 use Rattle.d_machine.specs.Answers.{Scene, StopsBefore, statements_in}
-use Rattle.run_laws.specs.Runs.{go_on, run_of}
+use Rattle.run_laws.specs.ItemRuns.{go_on, run_of}
 use Rattle.run_laws.proofs.Running.{runs_joined}
 use Rattle.script_run.specs.declared.ends.End.{End}
 use Rattle.script_run.specs.declared.ends.End.TheVariants as end
-use Rattle.script_run.specs.Comes.{Comes, ending_of, HasItemAt, IsCompiled, IsItemAt, Keeps, RunsItem, RunsProgram}
+use Rattle.script_run.specs.ProgramRuns.{Comes, ending_of, HasItemAt, IsCompiled, IsItemAt, Keeps, RunsItem, RunsProgram}
 use Rattle.script_run.proofs.ItemLemmas.{ends-same}
 use Rattle.script_run.proofs.OutlineLemmas.{codes-more, item-at, IsAt}
 use Rattle.script_run.proofs.RunLemmas.{stopped-in-longer, then-run}

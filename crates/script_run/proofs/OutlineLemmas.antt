@@ -18,9 +18,9 @@ use Rattle.machine_state.specs.StandsFor.{IsAtRest, beginning}
 use Rattle.standing.specs.Statements.{HasStatementAt, IsStatementAt}
 use Rattle.d_machine.specs.declared.answers.Stop.{Stop}
 use Rattle.d_machine.specs.Answers.{Scene}
-use Rattle.run_laws.specs.Runs.{run_of}
+use Rattle.run_laws.specs.ItemRuns.{run_of}
 use Rattle.script_run.specs.declared.ends.End.{End}
-use Rattle.script_run.specs.Comes.{Comes, ending_of, HasItemAt, RunsCommand, RunsItem, RunsLine}
+use Rattle.script_run.specs.ProgramRuns.{Comes, ending_of, HasItemAt, RunsCommand, RunsItem, RunsLine}
 use Rattle.script_run.proofs.ItemLemmas.{ends-same}
 use Rattle.script_run.proofs.SceneLemmas.{keeps-same}
 

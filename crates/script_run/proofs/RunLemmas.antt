@@ -9,10 +9,10 @@ use Rattle.machine_state.specs.StandsFor.{beginning}
 use Rattle.d_machine.specs.declared.answers.Stop.{Stop}
 use Rattle.d_machine.specs.declared.answers.Stop.TheVariants as stop
 use Rattle.d_machine.specs.Answers.{ComesTo, EndsAt, Scene}
-use Rattle.run_laws.specs.Runs.{behind, from_here, go_on, run_of, Grows}
+use Rattle.run_laws.specs.ItemRuns.{behind, from_here, go_on, run_of, Grows}
 use Rattle.run_laws.proofs.Running.{behind_itself, runs_behind, runs_grow, runs_joined}
 use Rattle.script_run.specs.declared.ends.End.{End}
-use Rattle.script_run.specs.Comes.{Comes, Keeps}
+use Rattle.script_run.specs.ProgramRuns.{Comes, Keeps}
 use Rattle.script_run.proofs.SceneLemmas.{comes-then, ends-then, front-behind, rose-later, stops-earlier, stops-then}
 
 -- where a machine came to a state, evaluation begins there

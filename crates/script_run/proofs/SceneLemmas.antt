@@ -13,8 +13,8 @@ use Rattle.apl_print.specs.Lines.{cost_line}
 use Rattle.apl_print.specs.declared.costs.Cost.{Cost}
 use Rattle.apl_model.specs.Evaluation.{State, Ended}
 use Rattle.d_machine.specs.Answers.{ComesTo, EndsAt, Scene, StopsBefore, TellsOperations, TracesAll, TracesFirst, lines_of, operations, statements_in}
-use Rattle.run_laws.specs.Runs.{behind, Grows}
-use Rattle.script_run.specs.Comes.{Keeps}
+use Rattle.run_laws.specs.ItemRuns.{behind, Grows}
+use Rattle.script_run.specs.ProgramRuns.{Keeps}
 
 -- ---- bytes
 

@@ -6,7 +6,7 @@ ghost use Rattle.apl_compile.specs.Tables.{codes_at};
 ghost use Rattle.machine_state.specs.StandsFor.{IsAtRest};
 ghost use Rattle.d_machine.specs.Running.{scene};
 ghost use Rattle.standing.specs.Statements.{HasStatementAt};
-ghost use Rattle.script_run.specs.Comes.{HasItemAt, RunsCommand, RunsItem, RunsLine, stop_of};
+ghost use Rattle.script_run.specs.ProgramRuns.{HasItemAt, RunsCommand, RunsItem, RunsLine, stop_of};
 
 use crate::ends::End;
 use apl_compile::Program;

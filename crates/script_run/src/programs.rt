@@ -2,7 +2,7 @@
 
 ghost use Rattle.machine_state.specs.StandsFor.{IsAtRest};
 ghost use Rattle.d_machine.specs.Running.{scene};
-ghost use Rattle.script_run.specs.Comes.{IsCompiled, RunsProgram};
+ghost use Rattle.script_run.specs.ProgramRuns.{IsCompiled, RunsProgram};
 
 use crate::ends::End;
 use crate::items::{code_count, run_item};

@@ -10,7 +10,7 @@ use Rattle.d_machine.specs.declared.breaks.Break.{Break}
 use Rattle.d_machine.specs.Answers.{Scene}
 use Rattle.d_machine.specs.Running.{scene, break_of, RunsCode, UnlessCutOff}
 use Rattle.d_machine.proofs.Arrivals.{arrives_break, arrives_end, arrives_first, arrives_next, end_below, end_high, end_low, left_at_end, ready}
-use Rattle.entry_steps.specs.Built.{HasLawfulLiteral}
+use Rattle.entry_steps.specs.Sound.{HasLawfulLiteral}
 use Rattle.entry_steps.proofs.EntryLemmas.{not_computed}
 use Rattle.d_machine.proofs.LiteralLemmas.{all_there}
 use Rattle.d_machine.proofs.PerformLemmas.{err_so, lawful_error, true_false}

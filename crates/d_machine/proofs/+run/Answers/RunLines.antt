@@ -8,7 +8,7 @@ use Rattle.apl_model.specs.Call.{RoutineLine, next_line}
 use Rattle.apl_compile.specs.declared.codes.Code.{Code}
 use Rattle.apl_compile.specs.Running.{lines_with}
 use Rattle.calling_steps.specs.Branches.{flow_of}
-use Rattle.entry_steps.specs.Built.{IsSoundCode}
+use Rattle.entry_steps.specs.Sound.{IsSoundCode}
 use Rattle.d_machine.specs.declared.breaks.Break.{Break}
 use Rattle.d_machine.specs.Answers.{Scene}
 use Rattle.d_machine.specs.Calling.{RunsLines}

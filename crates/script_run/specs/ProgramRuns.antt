@@ -19,7 +19,7 @@ use Rattle.standing.specs.Statements.{IsStatementAt}
 use Rattle.d_machine.specs.declared.answers.Stop.{Stop}
 use Rattle.d_machine.specs.declared.answers.Stop.TheVariants as stop
 use Rattle.d_machine.specs.Answers.{ComesTo, EndsAt, Scene, StopsBefore}
-use Rattle.run_laws.specs.Runs.{run_of}
+use Rattle.run_laws.specs.ItemRuns.{run_of}
 use Rattle.script_run.specs.declared.ends.End.{End}
 use Rattle.script_run.specs.declared.ends.End.TheVariants as end
 
