@@ -128,10 +128,11 @@ fn held_inline(alloc: Global, lengths: &[u64]) -> SmallVec<u64, 8>
     ensures items { result.items ≡ lengths.now }
     ensures capacity { result.capacity ≡ 8 }
 {
-    match SmallVec::from_slice(alloc, lengths) {
-        Ok(held) => held,
-        Err(_) => unreachable!(),
+    let mut held = SmallVec::new(alloc);
+    for n in lengths {
+        held.push_reserved(*n);
     }
+    held
 }
 
 // Whether each length is within the limit.

@@ -123,6 +123,10 @@ impl Desc {
         if self.size() == 0 {
             return Interval::Empty;
         }
+        if self.strides.is_empty() {
+            let only = self.number_at(&[]);
+            return Interval::Span { lo: only, hi: only };
+        }
         Interval::Span {
             lo: self.number_at(self.end(false).as_slice()),
             hi: self.number_at(self.end(true).as_slice()),

@@ -12,10 +12,11 @@ pub fn held_inline<T: Copy + Default + Drop>(alloc: Global, list: &[T]) -> Small
     ensures items { result.items ≡ list.now }
     ensures capacity { result.capacity ≡ 8 }
 {
-    match SmallVec::from_slice(alloc, list) {
-        Ok(held) => held,
-        Err(_) => unreachable!(),
+    let mut held = SmallVec::new(alloc);
+    for item in list {
+        held.push_reserved(*item);
     }
+    held
 }
 
 /// The list with another element for an axis.

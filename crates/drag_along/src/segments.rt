@@ -71,7 +71,8 @@ impl Segment {
         let shape = leaf.desc().shape.copy();
         let kind = leaf.kind();
         let _size = leaf.desc().size();
-        let mut nodes = Vec::new(alloc);
+        // Room for a function of two such operands.
+        let mut nodes = Vec::with_capacity(alloc, 3)?;
         nodes.push(Node::Operand { leaf })?;
         Ok(Segment {
             shape,

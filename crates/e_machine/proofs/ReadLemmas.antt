@@ -1,5 +1,5 @@
 -- The rows by which a leaf is read.
-use Rattle.std.proofs.Common.{◌≡◌, ℕ, ◌+◌, ◌<◌, ◌≤◌, ℤ, pos, ◌+ℤ◌, ◌*ℤ◌, ◌≤ℤ◌, ◌<ℤ◌, List, ◌++◌, length, map, get_or, refl, sym, ap, ◌∙◌, subst, All, append_assoc, append-nil, length-append, arith}
+use Rattle.std.proofs.Common.{◌≡◌, ℕ, zero, suc, ◌+◌, ◌<◌, ◌≤◌, ℤ, pos, ◌+ℤ◌, ◌*ℤ◌, ◌≤ℤ◌, ◌<ℤ◌, List, [], ◌∷◌, ◌++◌, length, map, get_or, refl, sym, ap, ◌∙◌, subst, All, append_assoc, append-nil, length-append, arith}
 use Rattle.std.specs.Prelude.{unsigned_abs}
 use Rattle.std.proofs.lemmas.List.{map-append}
 use Rattle.std.proofs.lemmas.List.Elements.{All-nil, All-append}
@@ -142,3 +142,17 @@ length-row_cells s (Gen desc kind) from step count = length-map-upward (λ j. fr
 pub length-read : (s : StoreView) (leaf : Leaf) (from step : ℤ) (count : ℕ) (cells more : List ℤ) → more ≡ cells ++ row_cells s leaf from step count → length more ≡ length cells + count
 length-read s leaf from step count cells more e =
     ap length e ∙ length-append cells (row_cells s leaf from step count) ∙ ap (λ (n : ℕ). length cells + n) (length-row_cells s leaf from step count)
+
+-- ---- a leaf without axes
+
+-- its cells are its only one
+pub single_cells : (s : StoreView) (leaf : Leaf) (first : ℕ) → leaf_shape leaf ≡ [] → cells_from s leaf first 1 ≡ leaf_cell s leaf [] ∷ []
+single_cells s leaf first single = ap (λ (ns : List ℕ). leaf_cell s leaf (index_at ns first) ∷ []) single
+
+-- a list of one element of which a fact holds
+pub one_has : (P : ℤ → Type 0) (z : ℤ) → P z → All P (z ∷ [])
+one_has P z p = λ k d below. at_place k d below
+  where
+    at_place : (k : ℕ) (d : ℤ) → k < 1 → P (get_or (z ∷ []) k d)
+    at_place zero d below = p
+    at_place (suc k) d below = absurd (omega (arith, below))

@@ -1,6 +1,6 @@
 //! Elements of leaves read at an index, and at a run of places.
 
-ghost use Rattle.std.specs.Prelude.{◌≡◌, ℕ, ◌+◌, ◌<◌, ◌≤◌, pos, ◌+ℤ◌, ◌*ℤ◌, ◌++◌, length, map, All, vec_len, vec_capacity};
+ghost use Rattle.std.specs.Prelude.{◌≡◌, ℕ, [], ◌+◌, ◌<◌, ◌≤◌, pos, ◌+ℤ◌, ◌*ℤ◌, ◌++◌, length, map, All, vec_len, vec_capacity};
 ghost use Rattle.std.specs.Int.{int_wrap};
 ghost use mir.Syntax.{w128};
 ghost use Rattle.apl_base.specs.Array.{IsIndex, size_of};
@@ -59,6 +59,10 @@ pub fn read_places(leaf: &Leaf, first: u64, count: u64, store: &mut Store, into:
 {
     // It tells the proof that the counts are numbers of a machine.
     let _counts = store.counts();
+    if count == 1 && leaf.desc().shape.rank() == 0 {
+        read_single(leaf, store, into);
+        return;
+    }
     let mut walk = RowWalk::new(leaf.desc(), first);
     let mut done = 0;
     while done < count {
@@ -66,6 +70,23 @@ pub fn read_places(leaf: &Leaf, first: u64, count: u64, store: &mut Store, into:
         read_row(leaf, row, store, into);
         done += row.count;
     }
+}
+
+// Appends the only cell of a leaf without axes.
+fn read_single(leaf: &Leaf, store: &mut Store, into: &mut Vec<Cell>)
+    requires lawful { IsLawfulLeaf store.old leaf.now }
+    requires single { leaf_shape leaf.now ≡ [] }
+    requires room { vec_len into.old + 1 ≤ vec_capacity into.old }
+    ensures cells { (first : ℕ)
+        → into.new.items ≡ into.old.items ++ cells_from store.old leaf.now first 1 }
+    ensures capacity { vec_capacity into.old ≤ vec_capacity into.new }
+    ensures counted { AreRead store.old store.new leaf.now 1 }
+    ensures lawful { (first : ℕ)
+        → All (IsCell (leaf_kind leaf.now)) (cells_from store.old leaf.now first 1) }
+    ensures store { IsStore store.new }
+{
+    let read = read_at(leaf, &[], store);
+    into.push_reserved(read.cell);
 }
 
 // Appends the cells of a leaf that a row of its descriptor's numbers leads to.
