@@ -27,11 +27,9 @@ use Rattle.apl_model.specs.declared.tokens.Line.{Line}
 use Rattle.apl_model.specs.declared.tokens.Token.{Token}
 use Rattle.apl_model.specs.declared.tokens.Word.{Word}
 use Rattle.apl_model.specs.declared.tokens.Word.TheVariants as word
+use Rattle.apl_model.proofs.SameNames.{same_name_is}
 
 -- ---- Names that differ ----
-
-same_name_is : (a b : List ℕ) → is_same_name a b ≡ true → a ≡ b
-same_name_is a b e = (bytes_decides a b).0 e
 
 differs : (b : Bool) → (b ≡ true → ⊥) → b ≡ false
 differs true f = absurd (f refl)

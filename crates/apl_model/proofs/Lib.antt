@@ -18,3 +18,4 @@ pub mod TokenOrder
 pub mod TokenSlices
 pub mod Mapped
 pub mod Every
+pub mod SameNames

@@ -125,7 +125,7 @@ functions_print_behind routines n f place left right text s =
 
 -- ---- a run and the run of its first items
 
-steps_joined : (xs ys : List Item) → filter_map step_of (xs ++ ys) ≡ filter_map step_of xs ++ filter_map step_of ys
+pub steps_joined : (xs ys : List Item) → filter_map step_of (xs ++ ys) ≡ filter_map step_of xs ++ filter_map step_of ys
 steps_joined [] ys = refl
 steps_joined (statement_item line s ∷ xs) ys = ap (λ l. statement_step line s ∷ l) (steps_joined xs ys)
 steps_joined (command_item line c ∷ xs) ys = ap (λ l. command_step c ∷ l) (steps_joined xs ys)

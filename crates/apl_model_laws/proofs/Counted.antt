@@ -38,7 +38,7 @@ pub record Grows (s t : State) : Type 0 where
 begins_self : (text : List ℕ) → BeginsWith text text
 begins_self text = ([], sym (append-nil text))
 
-begins_onward : (a b c : List ℕ) → BeginsWith b a → BeginsWith c b → BeginsWith c a
+pub begins_onward : (a b c : List ℕ) → BeginsWith b a → BeginsWith c b → BeginsWith c a
 begins_onward a b c f g = (f.0 ++ g.0, g.1 ∙ ap (λ x. x ++ g.0) f.1 ∙ append_assoc a f.0 g.0)
 
 pub printed_kept : IsKept Grows

@@ -185,7 +185,7 @@ put-below : (n : ℕ) (t : Bool) (p q : ℕ) (qs rs : List ℕ) → p < n → q 
 put-below n true p q qs rs a b c d = (b, d)
 put-below n false p q qs rs a b c d = (a, (b, c))
 
-place_in-length : (down : Bool) (cells : List ℤ) (p : ℕ) (qs : List ℕ) → length (place_in down cells p qs) ≡ suc (length qs)
+pub place_in-length : (down : Bool) (cells : List ℤ) (p : ℕ) (qs : List ℕ) → length (place_in down cells p qs) ≡ suc (length qs)
 place_in-length down cells p [] = refl
 place_in-length down cells p (q ∷ qs) =
     put-length (comes_first down (slice_index_or cells q (pos 0)) (slice_index_or cells p (pos 0))) p q qs (place_in down cells p qs) (place_in-length down cells p qs)
@@ -195,7 +195,7 @@ place_in-below n down cells p [] h a = (h, tt)
 place_in-below n down cells p (q ∷ qs) h a =
     put-below n (comes_first down (slice_index_or cells q (pos 0)) (slice_index_or cells p (pos 0))) p q qs (place_in down cells p qs) h a.0 a.1 (place_in-below n down cells p qs h a.1)
 
-in_order-length : (down : Bool) (cells : List ℤ) (ps : List ℕ) → length (in_order down cells ps) ≡ length ps
+pub in_order-length : (down : Bool) (cells : List ℤ) (ps : List ℕ) → length (in_order down cells ps) ≡ length ps
 in_order-length down cells [] = refl
 in_order-length down cells (p ∷ ps) = place_in-length down cells p (in_order down cells ps) ∙ ap suc (in_order-length down cells ps)
 

@@ -55,7 +55,7 @@ pub leads_print : {R : State → State → Type 0} → IsKept R → {A : Type 0}
 leads_print k b text s = record { to = k.printed s text }
 
 -- where a branch goes
-leads_branch : {R : State → State → Type 0} → IsKept R → (place : Place) (a : Array) (s : State) → Leads R s (branch_to place a s)
+pub leads_branch : {R : State → State → Type 0} → IsKept R → (place : Place) (a : Array) (s : State) → Leads R s (branch_to place a s)
 leads_branch {R} k place a s = by (is_empty a) (is_text a)
   where
     by : (e c : Bool) → Leads R s (branch_by e c a place s)
@@ -64,7 +64,7 @@ leads_branch {R} k place a s = by (is_empty a) (is_text a)
     by false false = leads_done k _ s
 
 -- the value of a statement, if it has one, printed
-leads_show : {R : State → State → Type 0} → IsKept R → (a : Option Array) (s : State) → Leads R s (print_result a s)
+pub leads_show : {R : State → State → Type 0} → IsKept R → (a : Option Array) (s : State) → Leads R s (print_result a s)
 leads_show k (Some a) s = leads_print k _ _ s
 leads_show k None s = leads_done k _ s
 

@@ -11,3 +11,4 @@ pub mod Spent
 pub mod TestedAxes
 pub mod Values
 pub mod Variables
+pub mod Refusals

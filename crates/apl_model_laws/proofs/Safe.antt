@@ -218,15 +218,15 @@ turn-safe {A} P line act h (suc left) s e = ends (act (with_turn left s)) (h (wi
     ends (fails kind place t) k = record { outcome = k.outcome }
     ends (spent t) k = record { outcome = k.outcome }
 
-abbrev IsLine : List Heading → RoutineLine Statement → Type 0
+abbrev pub IsLine : List Heading → RoutineLine Statement → Type 0
 IsLine hs l = IsStatement hs l.statement
 
-get-line : (hs : List Heading) (body : List (RoutineLine Statement)) (k : ℕ) → AllByRecursion (IsLine hs) body → IfSome (slice_get body k) (IsLine hs)
+pub get-line : (hs : List Heading) (body : List (RoutineLine Statement)) (k : ℕ) → AllByRecursion (IsLine hs) body → IfSome (slice_get body k) (IsLine hs)
 get-line hs [] k h = tt
 get-line hs (l ∷ ls) zero h = h.0
 get-line hs (l ∷ ls) (suc k) h = get-line hs ls k h.1
 
-line-at : (hs : List Heading) (body : List (RoutineLine Statement)) (i : ℤ) → AllByRecursion (IsLine hs) body → IfSome (line_at body i) (IsLine hs)
+pub line-at : (hs : List Heading) (body : List (RoutineLine Statement)) (i : ℤ) → AllByRecursion (IsLine hs) body → IfSome (line_at body i) (IsLine hs)
 line-at hs body (pos zero) h = tt
 line-at hs body (pos (suc k)) h = get-line hs body k h
 line-at hs body (negsuc k) h = tt
@@ -273,7 +273,7 @@ functions_are_lawful hs routines h (suc n) f place left right p q s e =
 
 -- ---- runs
 
-abbrev IsStep : List Heading → Step Statement → Type 0
+abbrev pub IsStep : List Heading → Step Statement → Type 0
 IsStep hs (statement_step line s) = IsStatement hs s
 IsStep hs (command_step c) = IsCommand c
 
@@ -303,7 +303,7 @@ module _ (hs : List Heading) (calls : Calls) (lawful : CallsAreLawful calls) (fu
       (λ n t e. steps-lawful steps n t h.1 e)
   steps-lawful (command_step c ∷ steps) ending s h e = steps-lawful steps ending (obeyed functions c s) h.1 (obeyed-lawful functions c s h.0 e)
 
-all-steps : (hs : List Heading) (items : List Item) → AllByRecursion (IsLawfulItem hs) items → AllByRecursion (IsStep hs) (filter_map step_of items)
+pub all-steps : (hs : List Heading) (items : List Item) → AllByRecursion (IsLawfulItem hs) items → AllByRecursion (IsStep hs) (filter_map step_of items)
 all-steps hs [] h = tt
 all-steps hs (statement_item line s ∷ items) h = (h.0, all-steps hs items h.1)
 all-steps hs (command_item line c ∷ items) h = (h.0, all-steps hs items h.1)

@@ -1,7 +1,6 @@
 -- A map that is prepared from one heading after the other.
 use Rattle.std.proofs.Common.{◌≡◌, ℕ, ◌+◌, ◌<◌, Bool, true, false, cond, List, [], ◌∷◌, ◌++◌, length, take, get_or, String, BTreeMap, Option, None, Some, refl, sym, ap, ◌∙◌}
 use Rattle.std.proofs.lemmas.List.{take_more}
-use Rattle.std.proofs.lemmas.Str.{encodes-chars}
 use Rattle.std.specs.BTreeMap.{IsEmpty, get_by_text}
 use Rattle.std.specs.Cmp.Lexicographic.{bytes_decides}
 use Rattle.std.specs.Map.{update}
@@ -11,7 +10,7 @@ use Rattle.apl_model.specs.Environment.{is_same_name}
 use Rattle.apl_model.specs.Grammar.{arguments_of}
 use Rattle.apl_model.specs.declared.tokens.Heading.{Heading}
 use Rattle.apl_tree.specs.Prepared.{Answers}
-use lib.Utf8.{encodes}
+use Rattle.apl_model.proofs.SameNames.{same_tests}
 
 -- ---- One heading more at the end ----
 
@@ -29,24 +28,6 @@ arguments_of-append [] h n = refl
 arguments_of-append (k ∷ hs) h n =
     ap (λ o. cond (is_same_name k.name n) (Some k.arguments) o) (arguments_of-append hs h n)
     ∙ by_first (is_same_name k.name n) k.arguments (arguments_of hs n) (cond (is_same_name h.name n) (Some h.arguments) None)
-
--- ---- Texts and names ----
-
--- texts are the same where their characters are
-same_texts : (a b : List ℕ) → IsUtf8 a → IsUtf8 b → chars a ≡ chars b → a ≡ b
-same_texts a b u v e = sym (encodes-chars a u) ∙ ap encodes e ∙ encodes-chars b v
-
-same_tests : (text bs name : List ℕ) → IsUtf8 text → IsUtf8 bs → chars text ≡ name → is_same_name name (chars bs) ≡ bytes_eq text bs
-same_tests text bs name u v e = by (bytes_eq text bs) refl (is_same_name name (chars bs)) refl
-  where
-    both : true ≡ false → ⊥
-    both c = cc
-
-    by : (b : Bool) → bytes_eq text bs ≡ b → (s : Bool) → is_same_name name (chars bs) ≡ s → s ≡ b
-    by true f true g = refl
-    by false f false g = refl
-    by true f false g = absurd (both (sym ((bytes_decides name (chars bs)).1 (sym e ∙ ap chars ((bytes_decides text bs).0 f))) ∙ g))
-    by false f true g = absurd (both (sym ((bytes_decides text bs).1 (same_texts text bs u v (e ∙ (bytes_decides name (chars bs)).0 g))) ∙ f))
 
 -- ---- One heading more in the map ----
 

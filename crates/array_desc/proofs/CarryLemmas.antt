@@ -15,7 +15,7 @@ use Rattle.apl_base.proofs.Sizes.{IsIndex-length, IsIndex-below}
 use Rattle.array_desc.proofs.Indices.{first_index}
 use Rattle.array_desc.proofs.Sums.{dot-zeros}
 
-place_at-zeros : (ns : List ℕ) → place_at ns (only_index ns) ≡ 0
+pub place_at-zeros : (ns : List ℕ) → place_at ns (only_index ns) ≡ 0
 place_at-zeros [] = refl
 place_at-zeros (n ∷ ns) = omega (arith, place_at-zeros ns)
 

@@ -4,3 +4,5 @@ pub mod FollowsLemmas
 pub mod CountingLemmas
 pub mod PlaceLemmas
 pub mod CameLemmas
+pub mod GoneLemmas
+pub mod RoomLemmas

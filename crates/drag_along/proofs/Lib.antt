@@ -9,3 +9,4 @@ pub mod EntryLemmas
 pub mod OneLeafLemmas
 pub mod ViewLemmas
 pub mod HoldingLemmas
+pub mod FirstLemmas

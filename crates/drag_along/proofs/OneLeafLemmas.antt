@@ -28,7 +28,7 @@ use Rattle.drag_along.proofs.LeafLemmas.{IsLawful-leaf, entry-leaf}
 once : (owner key : ℕ) → one_of owner key ≤ 1
 once owner key = elim (eqb key owner) as (λ (b : Bool). cond b 1 0 ≤ 1) [ true ↦ omega arith | false ↦ omega arith ]
 
-leaf_once : (leaf : Leaf) (key : ℕ) → named_by_leaf leaf key ≤ 1
+pub leaf_once : (leaf : Leaf) (key : ℕ) → named_by_leaf leaf key ≤ 1
 leaf_once (Stored owner desc kind) key = once owner key
 leaf_once (Gen desc kind) key = omega arith
 

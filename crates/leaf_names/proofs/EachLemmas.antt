@@ -3,11 +3,11 @@ use Rattle.std.proofs.Common.{◌≡◌, ℕ, Bool, true, false, if◌then◌els
 use Rattle.std.specs.Option.{ForSome}
 use Rattle.std.specs.List.{AllByRecursion}
 use Rattle.std.specs.Cmp.Lexicographic.{same_text}
-use Rattle.std.proofs.lemmas.Cmp.{nat_list_eq_equiv}
 use Rattle.drag_along.specs.declared.leaves.Leaf.{Leaf}
 use Rattle.apl_model.specs.Environment.{Bindings, Environment, is_same_name, declares, bound_in, bound_to, found_in, look_up, set_in_frames, declared_in, set_name, unset_global}
 use Rattle.leaf_names.specs.Variables.{AllBound, EachLeaf}
 use Rattle.leaf_names.proofs.CountLemmas.{not_in_frames}
+use Rattle.apl_model.proofs.SameNames.{same_self}
 
 -- ---- found
 
@@ -92,9 +92,6 @@ set_again names name leaf found = by (declared_in names.frames name) refl
     by false e = ap (λ (gs : Bindings Leaf). record names { globals = gs }) (again_in names.globals name leaf (sym (not_in_frames names.frames names.globals name e) ∙ found))
 
 -- ---- set, then found
-
-same_self : (name : List ℕ) → is_same_name name name ≡ true
-same_self name = nat_list_eq_equiv.refl name
 
 bound_to-found : (bs : Bindings Leaf) (name : List ℕ) (leaf : Leaf) → bound_in (bound_to bs name (Some leaf)) name ≡ Some leaf
 bound_to-found [] name leaf = ap (λ (t : Bool). if t then Some leaf else None) (same_self name)

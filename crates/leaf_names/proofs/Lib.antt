@@ -1,3 +1,4 @@
 pub mod CountLemmas
 pub mod EachLemmas
 pub mod KeptLemmas
+pub mod StandsLemmas

@@ -19,7 +19,7 @@ use Rattle.value_stack.specs.Stacks.{named_on, entries, Reads, IsLeastOrNone, Is
 pub named_on_both : (older younger : List SegmentView) (key : ℕ) → named_on (older ++ younger) key ≡ named_on older key + named_on younger key
 named_on_both older younger key = sum_by-append (λ (g : SegmentView). named_by g key) older younger
 
-named_on-cons : (g : SegmentView) (xs : List SegmentView) (key : ℕ) → named_on (g ∷ xs) key ≡ named_by g key + named_on xs key
+pub named_on-cons : (g : SegmentView) (xs : List SegmentView) (key : ℕ) → named_on (g ∷ xs) key ≡ named_by g key + named_on xs key
 named_on-cons g xs key = sum_by-cons (λ (x : SegmentView). named_by x key) g xs
 
 -- no entry reads the owner, so no leaf names it

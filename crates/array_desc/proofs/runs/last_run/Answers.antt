@@ -15,7 +15,7 @@ lengths_are : (c : After-lengths-lengths) → c.lengths-lengths.result.now ≡ c
 lengths_are c = c.lengths-lengths.ensures.value ∙ ap (λ (d : DescView). d.shape) c.desc.view_is
 
 strides_are : (c : After-lengths-lengths) → c.as_slice-strides.result.now ≡ c.args.desc.now.strides
-strides_are c = c.as_slice-strides.ensures ∙ ap (λ (d : DescView). d.strides) c.desc.view_is
+strides_are c = c.as_slice-strides.ensures ∙ ap (λ d. d.strides) c.desc.view_is
 
 pub loop-axis-init : goal.loop-axis-init
 loop-axis-init c =
