@@ -1,10 +1,11 @@
 -- A table by texts, seen as bindings: what its calls answer and leave is what the definitions say.
-use Rattle.std.proofs.Common.{◌≡◌, ℕ, ◌<◌, ◌^◌, Bool, true, false, ◌||◌, cond, if◌then◌else◌, List, [], ◌∷◌, length, String, Option, Some, None, Result, Ok, Err, OnOk, OnErr, MatchResult, is_some, refl, sym, ap, ◌∙◌, subst, arith}
+use Rattle.std.proofs.Common.{◌≡◌, ℕ, ◌<◌, ◌^◌, Bool, true, false, ◌||◌, cond, if◌then◌else◌, List, [], ◌∷◌, length, String, Option, Some, None, Result, Ok, Err, OnOk, OnErr, MatchResult, MatchOption, IfSome, Bor, is_some, refl, sym, ap, ◌∙◌, subst, arith}
 use Rattle.std.proofs.lemmas.List.{length-map}
 use Rattle.std.proofs.lemmas.Str.{encodes-chars}
 use Rattle.std.specs.Cmp.Lexicographic.{bytes_decides}
 use Rattle.std.specs.List.{AllByRecursion, IsDistinct}
 use Rattle.std.specs.Map.{lookup, set_value}
+use Rattle.std.specs.Option.{option_copied}
 use Rattle.std.specs.Str.{bytes_eq, chars, IsUtf8}
 use Rattle.std.specs.String.{string_bytes, string_eq}
 use lib.Utf8.{encodes}
@@ -168,3 +169,12 @@ module _ {A Y : Type 0} where
 pub told : {T E U F : Type 0} (r : Result T E) (s : Result U F) (u : U) (f : E → F) (P : Type 0) → MatchResult r (λ _. s ≡ Ok u) (λ e. s ≡ Err (f e)) → OnOk r P → OnOk s P
 told (Ok v) s u f P m p = subst (λ t. OnOk t P) (sym m) p
 told (Err e) s u f P m p = subst (λ t. OnOk t P) (sym m) tt
+
+-- what a look-up answers says whether the name is there, and what it is bound to
+pub found-declares : {X : Type 0} (r : Option (Bor X)) (t : Bool) → t ≡ is_some (option_copied r) → MatchOption r (t ≡ false) (λ _. t ≡ true)
+found-declares None t e = e
+found-declares (Some x) t e = e
+
+pub found-bound : {A : Type 0} (r : Option (Bor (Option A))) (b : Option A) → b ≡ flat (option_copied r) → IfSome r (λ x. x.now ≡ b)
+found-bound None b e = tt
+found-bound (Some x) b e = sym e

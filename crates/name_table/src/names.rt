@@ -8,7 +8,8 @@ ghost use Rattle.array_store.specs.Counting.{Costs};
 ghost use Rattle.array_store.specs.Follows.{Follows, Holds, both, none};
 ghost use Rattle.drag_along.specs.Nodes.{named_by_leaf};
 ghost use Rattle.drag_along.specs.Lawful.{IsLawfulLeaf};
-ghost use Rattle.apl_model.specs.Environment.{declared_in, erased, is_same_name, look_up, no_variables, set_name, set_names as names_set, with_frame, without_frame};
+ghost use Rattle.drag_along.specs.declared.leaves.Leaf.{Leaf as BoundLeaf};
+ghost use Rattle.apl_model.specs.Environment.{Bindings, declared_in, erased, found_in, is_same_name, look_up, no_variables, set_name, set_names as names_set, with_frame, without_frame};
 ghost use Rattle.apl_model.specs.Frames.{unset};
 ghost use Rattle.apl_model.specs.Immediate.{in_byte_order};
 ghost use Rattle.leaf_names.specs.Variables.{array_of, named_by_names, variables_of, AreLawfulNames, FillsOwner, FillOwners};
@@ -76,8 +77,8 @@ impl Names {
     pub fn get(&self, name: &Name) -> Option<&Leaf>
         ensures { option_copied result ≡ look_up self.now name.now }
     {
-        match innermost(self.frames.as_slice(), name) {
-            Some(at) => self.frames[at].get(name),
+        match found(self.frames.as_slice(), name) {
+            Some(bound) => bound.as_ref(),
             None => self.globals.get(name),
         }
     }
@@ -217,6 +218,20 @@ impl Names {
     {
         self.globals.set_names(self.alloc)
     }
+}
+
+// What a name is bound to in the innermost frame that declares it, where one does. The last frame is the innermost.
+fn found<'a>(frames: &'a [Scope], name: &Name) -> Option<&'a Option<Leaf>>
+    ensures { MatchOption result (declared_in (reverse frames.now) name.now ≡ false)
+        (λ bound. (globals : Bindings BoundLeaf)
+        → bound.now ≡ found_in (reverse frames.now) globals name.now) }
+{
+    for level in (0..frames.len()).rev() {
+        if let Some(bound) = frames[level].find(name) {
+            return Some(bound);
+        }
+    }
+    None
 }
 
 // The place of the innermost frame that declares a name, where one does. The last frame is the innermost.

@@ -1,6 +1,6 @@
 //! The names of the globals, or of one frame.
 
-ghost use Rattle.std.specs.Prelude.{◌≡◌, ◌+◌, ◌^◌, ◌<◌, [], length, map, false, true, MatchResult, IfOk, IfErr, OnOk, OnErr, Some};
+ghost use Rattle.std.specs.Prelude.{◌≡◌, ◌+◌, ◌^◌, ◌<◌, [], length, map, false, true, MatchOption, MatchResult, IfOk, IfErr, IfSome, OnOk, OnErr, Some};
 ghost use Rattle.std.specs.List.{IsDistinct};
 ghost use Rattle.std.specs.Option.{option_copied};
 ghost use Rattle.array_store.specs.Stores.{IsStore};
@@ -69,6 +69,15 @@ impl Scope {
         ensures { result ≡ declares self.now name.now }
     {
         self.table.contains_key(name.as_str())
+    }
+
+    // What the name is bound to here, or that it is unset, where it stands here.
+    pub(crate) fn find(&self, name: &Name) -> Option<&Option<Leaf>>
+        ensures none { MatchOption result (declares self.now name.now ≡ false)
+            (λ _. declares self.now name.now ≡ true) }
+        ensures bound { IfSome result (λ bound. bound.now ≡ bound_in self.now name.now) }
+    {
+        self.table.get(name.as_str())
     }
 
     // What the name is bound to here: `None` where it is unset or not among the names.

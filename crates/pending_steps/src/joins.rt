@@ -59,11 +59,19 @@ pub fn join_two(
     ensures leaves { IfOk result (λ joined. (key : ℕ)
         → named_by joined key ≡ both (named_by right) (named_by left) key) }
 {
+    if !may_fold(f) {
+        return join2(right, left, f, place);
+    }
     let Some(leaf) = fold2(f, &left, &right) else {
         return join2(right, left, f, place);
     };
     let range = range2(f, side_of(&left), side_of(&right)).range;
     Segment::of_leaf(alloc, leaf, range)
+}
+
+// Whether a progression may come of this function. Where it says no too often, none is sought, so no clause hangs on it.
+fn may_fold(f: Dya) -> bool {
+    matches!(f, Dya::Add | Dya::Sub | Dya::Mul)
 }
 
 /// An operand of one element that can't fail, extended to a shape. No element is computed, and no memory is taken.

@@ -49,6 +49,33 @@ pub fn join_fitted(
     join_two(alloc, wide.right, wide.left, f, place)
 }
 
+// `A f B` of operands of one shape, deferred.
+#[tactic(auto, using(crate::proofs::PairLemmas::numbers_in_range))]
+fn join_alike(
+    alloc: Global,
+    operands: Operands,
+    f: TwoFunction,
+    place: Place,
+    store: &Store,
+) -> Result<Segment, NoMemory>
+    requires left { IsLawful store.now operands.left }
+    requires right { IsLawful store.now operands.right }
+    requires alike { operands.left.shape ≡ operands.right.shape }
+    requires few { functions_in operands.right.nodes + functions_in operands.left.nodes < 64 }
+    ensures lawful { IfOk result (λ joined. IsLawful store.now joined) }
+    ensures leaves { IfOk result (λ joined. (key : ℕ) → named_by joined key
+        ≡ both (named_by operands.right) (named_by operands.left) key) }
+    ensures step { IfOk result (λ joined. (calls : Calls) (z : Stand)
+        → Takes calls (record { place = place; op = Dya (Scalar f) })
+        (push_on (entry store.now operands.left) (push_on (entry store.now operands.right) z))
+        (push_on (entry store.now joined) z)) }
+{
+    let Operands { left, right } = operands;
+    // They tell the proof that both are segments.
+    let _functions = (left.functions(), right.functions());
+    join_two(alloc, right, left, f, place)
+}
+
 // Both operands over the shape that they fit.
 fn widened(operands: Operands, fit: Fit, store: &Store) -> Operands
     requires left { IsLawful store.now operands.left }
