@@ -1,15 +1,12 @@
 //! The value of a name as an instruction.
 
-ghost use Rattle.std.specs.Prelude.{◌≡◌, ℕ, List, Some, IfErr, OnOk};
-ghost use Rattle.apl_model.specs.Environment.{look_up};
+ghost use Rattle.std.specs.Prelude.{IfErr, OnOk};
 ghost use Rattle.apl_compile.specs.declared.codes.Op.TheVariants as op;
-ghost use Rattle.pending_steps.specs.Leaves.{PutsHeld};
 ghost use Rattle.pending_steps.specs.Steps.{Reaches};
 ghost use Rattle.machine_state.specs.Steps.{pending, HasFewInHand, IsHaltedAt, IsSameRun, IsUnset, Keeps, StepsAt};
 
 use crate::machines::Machine;
-use apl_base::{ErrorKind, Name, NoMemory, Place};
-use drag_along::Leaf;
+use apl_base::{ErrorKind, Name, Place};
 use pending_steps::{Halt, push_held, settle_entries};
 
 impl Machine {
@@ -26,29 +23,17 @@ impl Machine {
             (pending self.old)) }
         ensures run { IsSameRun self.old self.new }
     {
-        match self.names.get(name) {
-            Some(leaf) => {
-                let leaf = leaf.copy();
-                self.push_bound(&leaf)?;
-                Ok(())
-            }
-            None => Err(self.unset(place)),
-        }
-    }
-
-    // The leaf of a name comes as the newest entry, held once more.
-    fn push_bound(&mut self, leaf: &Leaf) -> Result<(), NoMemory>
-        requires lawful { HasFewInHand self.old }
-        requires bound { (name : List ℕ) × (look_up self.old.names name ≡ Some leaf.now) }
-        ensures puts { OnOk result (PutsHeld self.old.store self.new.store
-            self.old.stack self.new.stack leaf.now) }
-        ensures run { IsSameRun self.old self.new }
-    {
         let alloc = *self.costs.allocator();
         // They tell the proof how many leaves there can be.
         let _depth = self.names.depth();
         let _count = self.stack.len();
-        push_held(alloc, leaf, &mut self.stack, &mut self.store)
+        match self.names.get(name) {
+            Some(leaf) => {
+                push_held(alloc, leaf, &mut self.stack, &mut self.store)?;
+                Ok(())
+            }
+            None => Err(self.unset(place)),
+        }
     }
 
     // The error of a name that is unset, after the fault of any entry.
