@@ -55,8 +55,8 @@ ImmediateForgets = (script : Script) (n : ℕ) → immediate script n ≡ told (
 
 -- forgetting the footprints gives ranged evaluation
 abbrev pub MeasuresForget : Type 0
-MeasuresForget = (script : Script) (items : List Item) (n : ℕ) →
-    ranged_items script items n ≡ mapped_run (λ (m : Measured). m.ranged) (measured_items script items n)
+MeasuresForget = (script : Script) (items : List Item) (n : ℕ) → ranged_items script items n
+    ≡ mapped_run (λ (m : Measured). m.ranged) (measured_items script items n)
 
 -- the footprint at each moment of a script's run is at most the peak
 abbrev pub FootprintsAreAtMostPeak : Type 0
@@ -68,8 +68,8 @@ AreOlderOf older all = (newer : List ℕ) × (all ≡ newer ++ older)
 
 -- the footprints of a script's first items are the older ones of those of more items
 abbrev pub FootprintsOfFirstItems : Type 0
-FootprintsOfFirstItems = (script : Script) (items more : List Item) (n : ℕ) →
-    AreOlderOf (measured_items script items n).state.moments (measured_items script (items ++ more) n).state.moments
+FootprintsOfFirstItems = (script : Script) (items more : List Item) (n : ℕ) → AreOlderOf (measured_items script items n).state.moments
+    (measured_items script (items ++ more) n).state.moments
 
 -- so none of the footprints of a script's first items is above the script's peak
 abbrev pub FirstFootprintsAreAtMostPeak : Type 0

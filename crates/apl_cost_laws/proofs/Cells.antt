@@ -25,6 +25,7 @@ use Rattle.apl_model.specs.Whole.{Answer, rank, count, is_text, is_shape, error_
 use Rattle.apl_model_laws.specs.Lawful.{IsOptional}
 use Rattle.apl_model_laws.proofs.TestedAxes.{axes_are_tested}
 use Rattle.apl_cost.specs.Ranges.{counts_fit}
+use Rattle.apl_base.proofs.ShapeLemmas.{index_parts}
 
 -- ---- answers
 
@@ -203,11 +204,6 @@ transpose-each P o a b count_a count_b all =
 
 -- ---- subscripts
 
-pub index-parts : (ms ns is : List ℕ) → IsIndex (ms ++ ns) is → IsIndex ms (take (length ms) is) × IsIndex ns (drop (length ms) is)
-index-parts [] ns is q = (tt, q)
-index-parts (m ∷ ms) ns [] q = absurd q
-index-parts (m ∷ ms) ns (i ∷ is) q = let r = index-parts ms ns is q.1 in ((q.0, r.0), r.1)
-
 -- a value that names a place of an axis
 place-named : (o : ℤ) (n : ℕ) (v : ℤ) → is_place o n v ≡ true → unsigned_abs (v -ℤ o) < n
 place-named o n v h =
@@ -233,7 +229,7 @@ positions-index o (n ∷ ns) [] is lawful l h q = absurd (omega (arith, l))
 positions-index o (n ∷ ns) (p ∷ ps) is lawful l h q =
     let k = length (axes_of n p) in
     let s = both_parts (in_axis o n p) (in_axes o ns ps) h in
-    let r = index-parts (axes_of n p) (positions_shape ns ps) is q in
+    let r = index_parts (axes_of n p) (positions_shape ns ps) is q in
     index-append (n ∷ []) ns (place_of o p (take k is)) (positions_index o ns ps (drop k is))
     (position-index o n p (take k is) lawful.0 s.0 r.0) (positions-index o ns ps (drop k is) lawful.1 (omega (arith, l)) s.1 r.1)
 

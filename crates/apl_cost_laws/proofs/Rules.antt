@@ -30,8 +30,9 @@ use Rattle.value_range.specs.Sound.{IsMember, GivesWithin}
 use Rattle.value_range.specs.Laws.Functions.{ranged1-interval, ranged2-interval, ranged2-sound}
 use Rattle.apl_cost.specs.Laws.{LiesIn, HasValueIn}
 use Rattle.apl_cost.proofs.Safe.{safe_functions_of_one, safe_functions_of_two}
-use Rattle.apl_cost_laws.proofs.Cells.{Makes, makes-ok, makes-error, makes-within, cell-each, index-parts}
+use Rattle.apl_cost_laws.proofs.Cells.{Makes, makes-ok, makes-error, makes-within, cell-each}
 use Rattle.apl_cost_laws.proofs.Hulls.{cells-numbers}
+use Rattle.apl_base.proofs.ShapeLemmas.{index_parts}
 
 -- ---- not safe
 
@@ -163,7 +164,7 @@ outer-inside f a b c i j left right h e =
     let g : List ℕ → Option Elem = λ is. scalar2 f (elem_at a (take (rank a) is)) (elem_at b (drop (rank a) is)) in
     in-range r c (guards2 f a.kind i b.kind j) h (λ s.
     let at : (is : List ℕ) → IsIndex ns is → IfSome (g is) (λ x. InInterval r.range x.cell) =
-    λ is k. let parts = index-parts a.shape b.shape is k in
+    λ is k. let parts = index_parts a.shape b.shape is k in
     given-within r.range (g is) (ranged2-sound f p q left.lawful right.lawful s _ _ (element-member a i (take (rank a) is) left parts.0)
     (element-member b j (drop (rank a) is) right parts.1)) in
     (makes-within (λ v. AllByRecursion (InInterval r.range) v.cells) ns _

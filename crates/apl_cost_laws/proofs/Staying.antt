@@ -1,6 +1,5 @@
 -- In every run each cell lies in the interval beside it.
-use Rattle.std.proofs.Common.{◌≡◌, ℕ, zero, suc, ◌+◌, ◌≤◌, Bool, true, false, if◌then◌else◌, ℤ, pos, negsuc, List, [], ◌∷◌, map, length, Option, Some, None, Ok, Err, IfSome, refl, inr, arith}
-use Rattle.std.specs.Prelude.{slice_get}
+use Rattle.std.proofs.Common.{◌≡◌, ℕ, zero, suc, ◌+◌, ◌≤◌, Bool, true, false, if◌then◌else◌, ℤ, pos, List, [], ◌∷◌, map, length, Option, Some, None, Ok, Err, IfSome, refl, inr, arith}
 use Rattle.std.specs.List.{AllByRecursion, filter_map, find}
 use Rattle.std.specs.Option.{option_map}
 use Rattle.std.proofs.lemmas.List.{length-map}
@@ -23,12 +22,12 @@ use Rattle.apl_model.specs.Outcome.{Outcome, done, fails, spent, and_then, Flow}
 use Rattle.apl_model.specs.Product as product
 use Rattle.apl_model.specs.Subscript as places
 use Rattle.apl_model.specs.Tree as tree
-use Rattle.apl_model.specs.Tree.{Tree, Slot, Positions, Statement, Script, Item, Definition, statement_item, command_item, definition_item, constant, variable, call, parenthesis, monadic, dyadic, reduction, outer_product, inner_product, assignment, indexed_assignment, output, elided, given, no_position, position, nothing, branch, expression}
+use Rattle.apl_model.specs.Tree.{Tree, Positions, Statement, Item, Definition, statement_item, command_item, definition_item, constant, variable, call, parenthesis, monadic, dyadic, reduction, outer_product, inner_product, assignment, indexed_assignment, output, elided, given, no_position, position, nothing, branch, expression}
 use Rattle.apl_model.specs.Whole.{Answer, is_empty, is_text}
 use Rattle.apl_model.specs.Script.{headings}
 use Rattle.apl_model_laws.specs.Lawful.{IsOrigin, IsRoutine, IsLawfulItem}
 use Rattle.apl_model_laws.proofs.Arrays.{scalar-array}
-use Rattle.apl_model_laws.proofs.Safe.{reductions_are_lawful, inner_products_are_lawful}
+use Rattle.apl_model_laws.proofs.Safe.{IsLine, IsStep, all-steps, inner_products_are_lawful, line-at, reductions_are_lawful}
 use Rattle.apl_model_laws.proofs.Scripts.{scripts_have_lawful_items}
 use Rattle.apl_model_laws.proofs.Values.{literals_are_lawful}
 use Rattle.apl_model_laws.proofs.Variables.{below-number}
@@ -242,19 +241,6 @@ turn-keeps {A} P line act h (suc left) s e = ends (act (of_ranged_states.begin l
     ends (fails kind place t) k = record { outcome = k.outcome }
     ends (spent t) k = record { outcome = k.outcome }
 
-abbrev IsLine : List Heading → RoutineLine Statement → Type 0
-IsLine hs l = IsStatement hs l.statement
-
-get-line : (hs : List Heading) (body : List (RoutineLine Statement)) (k : ℕ) → AllByRecursion (IsLine hs) body → IfSome (slice_get body k) (IsLine hs)
-get-line hs [] k h = tt
-get-line hs (l ∷ ls) zero h = h.0
-get-line hs (l ∷ ls) (suc k) h = get-line hs ls k h.1
-
-line-at : (hs : List Heading) (body : List (RoutineLine Statement)) (i : ℤ) → AllByRecursion (IsLine hs) body → IfSome (line_at body i) (IsLine hs)
-line-at hs body (pos zero) h = tt
-line-at hs body (pos (suc k)) h = get-line hs body k h
-line-at hs body (negsuc k) h = tt
-
 -- the labels of a body whose lines a number of the language counts
 labels-inside : (k n : ℕ) (ls : List (Option (List ℕ))) → k + length ls ≤ suc n → IsNumber (pos n) → EachLabel IsOptionalInside tt ranged_line k ls
 labels-inside k n [] l h = tt
@@ -318,10 +304,6 @@ functions_stay_inside hs routines h (suc n) f place left right p q s e =
 
 -- ---- runs
 
-abbrev IsStep : List Heading → Step Statement → Type 0
-IsStep hs (statement_step line s) = IsStatement hs s
-IsStep hs (command_step c) = IsCommand c
-
 obeyed-inside : (functions : List (List ℕ)) (c : Command) (s : RangedState) → IsCommand c → AreVariablesInside s.variables →
     AreVariablesInside (of_ranged_states.obey functions c s).variables
 obeyed-inside functions Vars s h e = e
@@ -355,12 +337,6 @@ module _ (hs : List Heading) (calls : CallsOf RangedState RangedArray) (inside :
       after-inside ending (on_turn of_ranged_states line (ranged_flow calls st) s) (ran steps)
       (turn-keeps Any line (ranged_flow calls st) (statement-keeps hs calls inside st h.0) s.turns s e) (λ n t e. steps-inside steps n t h.1 e)
   steps-inside (command_step c ∷ steps) ending s h e = steps-inside steps ending (of_ranged_states.obey functions c s) h.1 (obeyed-inside functions c s h.0 e)
-
-all-steps : (hs : List Heading) (items : List Item) → AllByRecursion (IsLawfulItem hs) items → AllByRecursion (IsStep hs) (filter_map step_of items)
-all-steps hs [] h = tt
-all-steps hs (statement_item line s ∷ items) h = (h.0, all-steps hs items h.1)
-all-steps hs (command_item line c ∷ items) h = (h.0, all-steps hs items h.1)
-all-steps hs (definition_item d ∷ items) h = all-steps hs items h.1
 
 all-routines : (hs : List Heading) (items : List Item) → AllByRecursion (IsLawfulItem hs) items →
     AllByRecursion (IsRoutine hs) (map routine (definitions_of items))

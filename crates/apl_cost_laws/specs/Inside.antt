@@ -77,15 +77,15 @@ LinesStayInside = (hs : List Heading) (calls : CallsOf RangedState RangedArray) 
 
 -- calls of functions of the language, however many more may be pending
 abbrev pub FunctionsStayInside : Type 0
-FunctionsStayInside = (hs : List Heading) (routines : List (Routine Statement)) → AllByRecursion (IsRoutine hs) routines →
-    (n : ℕ) → CallsStayInside (call_within of_ranged_states ranged_flow routines n)
+FunctionsStayInside = (hs : List Heading) (routines : List (Routine Statement)) → AllByRecursion (IsRoutine hs) routines → (n : ℕ) →
+    CallsStayInside (call_within of_ranged_states ranged_flow routines n)
 
 -- runs of items of the language
 abbrev pub RunsStayInside : Type 0
-RunsStayInside = (hs : List Heading) (script : Script) (items : List Item) (n : ℕ) → AllByRecursion (IsLawfulItem hs) script.items →
-    AllByRecursion (IsLawfulItem hs) items → AreVariablesInside (ranged_items script items n).state.variables
+RunsStayInside = (hs : List Heading) (script : Script) (items : List Item) (n : ℕ) →
+    AllByRecursion (IsLawfulItem hs) script.items → AllByRecursion (IsLawfulItem hs) items → AreVariablesInside (ranged_items script items n).state.variables
 
 -- so the run of a script leaves globals whose cells lie in their intervals
 abbrev pub ScriptsStayInside : Type 0
-ScriptsStayInside = (ls : List Line) (script : Script) → IsScript ls script → IsNumber (pos (length ls)) →
-    (n : ℕ) → AreVariablesInside (ranged_items script script.items n).state.variables
+ScriptsStayInside = (ls : List Line) (script : Script) → IsScript ls script → IsNumber (pos (length ls)) → (n : ℕ) →
+    AreVariablesInside (ranged_items script script.items n).state.variables

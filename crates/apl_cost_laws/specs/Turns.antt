@@ -7,8 +7,8 @@ use Rattle.apl_cost.specs.Laws.{AreOlderOf}
 
 -- the footprints of a run are the older ones of those of the same run with more turns
 abbrev pub FootprintsOfFewerTurns : Type 0
-FootprintsOfFewerTurns = (script : Script) (items : List Item) (n k : ℕ) →
-    AreOlderOf (measured_items script items n).state.moments (measured_items script items (n + k)).state.moments
+FootprintsOfFewerTurns = (script : Script) (items : List Item) (n k : ℕ) → AreOlderOf (measured_items script items n).state.moments
+    (measured_items script items (n + k)).state.moments
 
 -- so the peak grows with the turns
 abbrev pub PeakGrowsWithTurns : Type 0
