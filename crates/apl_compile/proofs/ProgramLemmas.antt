@@ -72,14 +72,14 @@ reports-same script = λ i kind place. reports_of_outline script kind place i
 -- ---- functions and steps
 
 -- a statement and its line
-record Placed : Type 0 where
-  line : ℕ
-  statement : Statement
+pub record Placed : Type 0 where
+  pub line : ℕ
+  pub statement : Statement
 
-abbrev placed_line : BodyLine → RoutineLine Placed
+abbrev pub placed_line : BodyLine → RoutineLine Placed
 placed_line l = record { line = l.line; label = l.label; statement = record { line = l.line; statement = l.statement } }
 
-abbrev placed_routine : Definition → Routine Placed
+abbrev pub placed_routine : Definition → Routine Placed
 placed_routine d = record { header = d.header; body = map placed_line d.body }
 
 abbrev placed_step : Item → Option (Step Placed)
@@ -87,10 +87,10 @@ placed_step (statement_item line t) = Some (statement_step line (record { line =
 placed_step (command_item line c) = Some (command_step c)
 placed_step (definition_item d) = None
 
-abbrev code_of_placed : Placed → Code
+abbrev pub code_of_placed : Placed → Code
 code_of_placed p = compiled p.line p.statement
 
-abbrev statement_of_placed : Placed → Statement
+abbrev pub statement_of_placed : Placed → Statement
 statement_of_placed p = p.statement
 
 lines-coded : (ls : List BodyLine) (rest : List Code) → lines_with (map outline_body ls) (map (λ l. compiled l.line l.statement) ls ++ rest) ≡ map (mapped_line code_of_placed) (map placed_line ls)
@@ -117,17 +117,17 @@ steps-coded (statement_item line t ∷ is) = ap (λ more. statement_step line (c
 steps-coded (command_item line c ∷ is) = ap (λ more. command_step c ∷ more) (steps-coded is)
 steps-coded (definition_item d ∷ is) = ap (steps_from (map outline_item is)) (codes-behind d.body (codes_of is)) ∙ steps-coded is
 
-functions-outlined : (items : List Item) → filter_map function_of (map outline_item items) ≡ map (λ d. d.header.f) (definitions_of items)
+pub functions-outlined : (items : List Item) → filter_map function_of (map outline_item items) ≡ map (λ d. d.header.f) (definitions_of items)
 functions-outlined [] = refl
 functions-outlined (statement_item line t ∷ is) = functions-outlined is
 functions-outlined (command_item line c ∷ is) = functions-outlined is
 functions-outlined (definition_item d ∷ is) = ap (λ ns. d.header.f ∷ ns) (functions-outlined is)
 
-lines-plain : (ls : List BodyLine) → map (mapped_line statement_of_placed) (map placed_line ls) ≡ map routine_line ls
+pub lines-plain : (ls : List BodyLine) → map (mapped_line statement_of_placed) (map placed_line ls) ≡ map routine_line ls
 lines-plain [] = refl
 lines-plain (l ∷ ls) = ap (λ more. routine_line l ∷ more) (lines-plain ls)
 
-routines-plain : (ds : List Definition) → map (mapped_routine statement_of_placed) (map placed_routine ds) ≡ map routine ds
+pub routines-plain : (ds : List Definition) → map (mapped_routine statement_of_placed) (map placed_routine ds) ≡ map routine ds
 routines-plain [] = refl
 routines-plain (d ∷ ds) = ap (λ b. record { header = d.header; body = b } ∷ map (mapped_routine statement_of_placed) (map placed_routine ds)) (lines-plain d.body) ∙ ap (λ rs. routine d ∷ rs) (routines-plain ds)
 

@@ -2,12 +2,9 @@
 use Rattle.std.proofs.Common.{◌≡◌, ℕ, zero, suc, ◌+◌, ◌-◌, ◌<◌, ◌≤◌, ◌==◌, Bool, true, false, not, cond, nat_lt, List, [], ◌∷◌, drop, length, map, get_or, slice_get, String, Option, Some, None, refl, sym, ap, subst, ◌∙◌, arith, lt-ltb, le-ltb, ltb-true, ltb-false}
 use Rattle.std.proofs.lemmas.List.{drop-drop, drop_more, length-append, length-map}
 use Rattle.std.specs.List.{find, position, position_or_len}
-use Rattle.std.proofs.lemmas.Str.{encodes-chars}
-use Rattle.std.specs.Cmp.Lexicographic.{bytes_decides}
 use Rattle.std.specs.Map.{update}
 use Rattle.std.specs.Option.{option_map, unwrap_or, MatchOption}
 use Rattle.std.specs.Str.{bytes_eq, chars, IsUtf8}
-use lib.Utf8.{encodes}
 use Rattle.indexmap.specs.IndexMap.{IndexMap, get_by_text}
 use Rattle.apl_model.specs.Call.{Routine, routine_of}
 use Rattle.apl_model.specs.Environment.{is_same_name}
@@ -26,6 +23,7 @@ use Rattle.apl_compile.specs.Lookups.{IsFunctionAt}
 use Rattle.apl_compile.specs.Program.{ProgramView, compiled, outline_body, outline_item, codes_of}
 use Rattle.apl_compile.specs.Running.{lines_with, routines_from, routines_in, line_text_in, prefix_from}
 use Rattle.apl_compile.specs.Tables.{codes_at, codes_for, function_from, place_from, standing_or, standing_from, HasFunctions}
+use Rattle.apl_model.proofs.SameNames.{same_tests}
 
 -- ---- numbers of codes
 
@@ -116,22 +114,6 @@ function_found p name None l e = no_function name p.outline.items p.codes 0 0 (s
 function_found p name (Some f) l e = function_at p name f p.outline.items p.codes 0 0 refl refl (omega (arith, l)) refl (sym e)
 
 -- ---- one item more in the table of functions
-
--- texts are the same where their characters are
-same_texts : (a b : List ℕ) → IsUtf8 a → IsUtf8 b → chars a ≡ chars b → a ≡ b
-same_texts a b u v e = sym (encodes-chars a u) ∙ ap encodes e ∙ encodes-chars b v
-
-same_tests : (text bs name : List ℕ) → IsUtf8 text → IsUtf8 bs → chars text ≡ name → is_same_name name (chars bs) ≡ bytes_eq text bs
-same_tests text bs name u v e = by (bytes_eq text bs) refl (is_same_name name (chars bs)) refl
-  where
-    both : true ≡ false → ⊥
-    both c = cc
-
-    by : (b : Bool) → bytes_eq text bs ≡ b → (s : Bool) → is_same_name name (chars bs) ≡ s → s ≡ b
-    by true f true g = refl
-    by false f false g = refl
-    by true f false g = absurd (both (sym ((bytes_decides name (chars bs)).1 (sym e ∙ ap chars ((bytes_decides text bs).0 f))) ∙ g))
-    by false f true g = absurd (both (sym ((bytes_decides text bs).1 (same_texts text bs u v (e ∙ (bytes_decides name (chars bs)).0 g))) ∙ f))
 
 passed : (n : ℕ) (x : OutlineItem) (is : List OutlineItem) (from k code : ℕ) (name : List ℕ) → k + 1 ≡ from → n ≡ codes_at x → n ≤ code → ((opened closed : ℕ) (header : Header) (body : List OutlineBody) → x ≡ outline.Definition opened closed header body → ⊥) → function_from k (code - n) (x ∷ is) name ≡ function_from from code is name
 passed n (outline.Statement line) is from k code name next count l apart =

@@ -7,6 +7,7 @@ use Rattle.drag_along.specs.declared.nodes.Node.TheVariants.{Operand, One, Two}
 use Rattle.drag_along.specs.Nodes.{leaf_desc, AllLeaves}
 use Rattle.beating.specs.declared.selections.Selection.{Selection}
 use Rattle.beating.specs.Selecting.{SelectsNodes}
+use Rattle.drag_along.proofs.FirstLemmas.{first_leaves, rest_leaves}
 
 -- a node that is selected
 pub record NodeSelected (by : Selection) (old new : Node) : Type 0 where
@@ -23,18 +24,6 @@ pub record InNodes (by : Selection) (olds news : List Node) (k : ℕ) : Type 0 w
   pub first : FirstSelected by k olds news
 
 -- ---- one node and others
-
--- what is so of all leaves is so of the first node
-front : (P : Leaf → Type 0) (x : Node) (xs : List Node) → AllLeaves P (x ∷ xs) → AllLeaves P (x ∷ [])
-front P (Operand leaf) xs h = (h.0, tt)
-front P (One f place) xs h = tt
-front P (Two f place) xs h = tt
-
--- and of the others
-behind : (P : Leaf → Type 0) (x : Node) (xs : List Node) → AllLeaves P (x ∷ xs) → AllLeaves P xs
-behind P (Operand leaf) xs h = h.1
-behind P (One f place) xs h = h
-behind P (Two f place) xs h = h
 
 -- what is so of both is so of all
 in_front : (P : Leaf → Type 0) (x : Node) (xs : List Node) → AllLeaves P (x ∷ []) → AllLeaves P xs → AllLeaves P (x ∷ xs)
@@ -65,8 +54,8 @@ same_at by (suc k) (x ∷ olds) [] d h = absurd h
 
 -- what is so of all leaves is so of each node
 all_at : (P : Leaf → Type 0) (k : ℕ) (olds : List Node) (d : Node) → k < length olds → AllLeaves P olds → AllLeaves P (get_or olds k d ∷ [])
-all_at P zero (x ∷ olds) d b h = front P x olds h
-all_at P (suc k) (x ∷ olds) d b h = all_at P k olds d (omega (arith, b)) (behind P x olds h)
+all_at P zero (x ∷ olds) d b h = first_leaves P x olds h
+all_at P (suc k) (x ∷ olds) d b h = all_at P k olds d (omega (arith, b)) (rest_leaves P x olds h)
 all_at P k [] d b h = absurd (omega (arith, b))
 
 -- so it has what was asked of it

@@ -14,13 +14,10 @@ use Rattle.apl_base.proofs.Integers.{add_mul, mul_assoc}
 use Rattle.array_desc.proofs.Indices.{index_with_size}
 use Rattle.array_desc.proofs.Sums.{Numbers, Near, near-dot, number_at_first, number_fits}
 use Rattle.beating.specs.Folds.{AllRest}
+use Rattle.apl_base.proofs.Fitting.{number_in_cell}
 
 is_number_zero : IsNumber (pos 0)
 is_number_zero = record { least = omega (arith, ints); most = omega (arith, ints) }
-
--- a number is kept in 128 bits
-pub number_in_cell : (z : ℤ) → IsNumber z → FitsSigned w128 z
-number_in_cell z n = omega (arith, ints, n.least, n.most)
 
 -- ---- each number multiplied
 

@@ -19,18 +19,9 @@ use Rattle.e_machine.specs.Columns.{pending_at, pending_in, AreColumns}
 use Rattle.e_machine.specs.Runs.{IsReadable, HaveIndex, Passes, FailsAt, FailsFirst, IsRun}
 use Rattle.e_machine.proofs.CountedLemmas.{lawful_leaf-counted}
 use Rattle.e_machine.proofs.StackRuns.{RunTo, run_starts, run_goes, run_fails, run_ends, run_leaves}
+use Rattle.drag_along.proofs.FirstLemmas.{first_leaves, rest_leaves}
 
 -- ---- parts of a list of nodes
-
-pub next_leaves : (P : Leaf → Type 0) (x : Node) (xs : List Node) → AllLeaves P (x ∷ xs) → AllLeaves P (x ∷ [])
-next_leaves P (Operand leaf) xs h = (h.0, tt)
-next_leaves P (One f p) xs h = tt
-next_leaves P (Two f p) xs h = tt
-
-rest_leaves : (P : Leaf → Type 0) (x : Node) (xs : List Node) → AllLeaves P (x ∷ xs) → AllLeaves P xs
-rest_leaves P (Operand leaf) xs h = h.1
-rest_leaves P (One f p) xs h = h
-rest_leaves P (Two f p) xs h = h
 
 drop_leaves : (P : Leaf → Type 0) (k : ℕ) (xs : List Node) → AllLeaves P xs → AllLeaves P (drop k xs)
 drop_leaves P zero xs h = h
@@ -39,7 +30,7 @@ drop_leaves P (suc k) (x ∷ xs) h = drop_leaves P k xs (rest_leaves P x xs h)
 
 -- what is so of all leaves is so of the next node's
 leaves_next : (P : Leaf → Type 0) (k : ℕ) (xs : List Node) (x : Node) → drop k xs ≡ x ∷ drop (suc k) xs → AllLeaves P xs → AllLeaves P (x ∷ [])
-leaves_next P k xs x here h = next_leaves P x (drop (suc k) xs) (subst (AllLeaves P) here (drop_leaves P k xs h))
+leaves_next P k xs x here h = first_leaves P x (drop (suc k) xs) (subst (AllLeaves P) here (drop_leaves P k xs h))
 
 functions_in-cons : (x : Node) (xs : List Node) → functions_in (x ∷ xs) ≡ functions_in (x ∷ []) + functions_in xs
 functions_in-cons (Operand leaf) xs = omega arith

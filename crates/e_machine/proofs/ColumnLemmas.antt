@@ -1,9 +1,9 @@
 -- Columns of cells: what is pending at a place after a leaf is read, or a function applied.
-use Rattle.std.proofs.Common.{◌≡◌, ℕ, suc, ◌+◌, ◌-◌, ◌*◌, ◌<◌, ℤ, pos, false, true, Bool, not, IsTrue, All, List, [], ◌∷◌, ◌++◌, length, take, drop, Option, Some, None, refl, sym, ap, ◌∙◌, subst, arith, length-append}
+use Rattle.std.proofs.Common.{◌≡◌, ℕ, suc, ◌+◌, ◌-◌, ◌*◌, ◌<◌, ℤ, pos, false, true, Bool, not, IsTrue, All, List, [], ◌∷◌, ◌++◌, length, map, take, drop, Option, Some, None, refl, sym, ap, ◌∙◌, subst, arith, length-append}
 use Rattle.std.specs.Prelude.{is_none}
 use Rattle.std.specs.Option.{is_some}
 use Rattle.std.specs.List.{AllByRecursion}
-use Rattle.std.proofs.lemmas.List.{get_or_append_left, get_or-append-add, get_or-take, get_or-drop, length-take-le}
+use Rattle.std.proofs.lemmas.List.{map-append, get_or_append_left, get_or-append-add, get_or-take, get_or-drop, length-take-le}
 use Rattle.std.proofs.lemmas.List.Elements.{All-from_get_or}
 use Rattle.apl_base.specs.declared.cells.Kind.{Kind}
 use Rattle.apl_base.specs.declared.cells.Kind.TheVariants.{Num}
@@ -15,7 +15,8 @@ use Rattle.apl_base.specs.Array.{index_at}
 use Rattle.apl_base.specs.Elements.{element}
 use Rattle.apl_base.specs.Number.{IsNumber, IsCell}
 use Rattle.apl_base.specs.Scalar.{number, scalar1, scalar2}
-use Rattle.apl_base.proofs.Upward.{length-map-upward, get_or-map-upward}
+use Rattle.apl_base.specs.Selection.{upward}
+use Rattle.apl_base.proofs.Upward.{length-map-upward, get_or-map-upward, upward-append}
 use Rattle.array_store.specs.Stores.{StoreView}
 use Rattle.drag_along.specs.declared.leaves.Leaf.{Leaf}
 use Rattle.drag_along.specs.declared.nodes.Node.TheVariants.{Operand, One, Two}
@@ -60,8 +61,15 @@ read_pending s leaf first n old new q h are cells kinds =
     ∙ pending_more n old.cells.items (cells_from s leaf first n) (leaf_kind leaf) old.kinds q h are.count
     ∙ ap (λ (c : ℤ). element (leaf_kind leaf) c ∷ pending_in n old q) (read_at_place s leaf first n q h)
 
-length-cells_from : (s : StoreView) (leaf : Leaf) (first n : ℕ) → length (cells_from s leaf first n) ≡ n
+pub length-cells_from : (s : StoreView) (leaf : Leaf) (first n : ℕ) → length (cells_from s leaf first n) ≡ n
 length-cells_from s leaf first n = length-map-upward (λ p. leaf_cell s leaf (index_at (leaf_shape leaf) p)) first n
+
+-- the places so far, and then the next ones
+pub cells_more : (s : StoreView) (leaf : Leaf) (m n : ℕ) → cells_from s leaf 0 (m + n) ≡ cells_from s leaf 0 m ++ cells_from s leaf m n
+cells_more s leaf m n =
+    let cell : ℕ → ℤ = λ p. leaf_cell s leaf (index_at (leaf_shape leaf) p) in
+    let from : 0 + m ≡ m = omega arith in
+    ap (map cell) (upward-append 0 m n ∙ ap (λ k. upward 0 m ++ upward k n) from) ∙ map-append cell (upward 0 m) (upward m n)
 
 pub read_passes : (s : StoreView) (leaf : Leaf) (first n : ℕ) (old new : Columns) → AreColumns n old → new.cells.items ≡ old.cells.items ++ cells_from s leaf first n → new.kinds ≡ leaf_kind leaf ∷ old.kinds → All (IsCell (leaf_kind leaf)) (cells_from s leaf first n) → Passes s first n (Operand leaf) old new
 read_passes s leaf first n old new are cells kinds lawful =

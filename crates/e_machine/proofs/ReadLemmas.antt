@@ -33,7 +33,7 @@ pub record ReadTo (old now : StoreView) (leaf : Leaf) (first done : ℕ) (before
   pub lawful : All (IsCell (leaf_kind leaf)) (cells_from old leaf first done)
   pub counted : AreRead old now leaf done
 
-read_nothing : (s : StoreView) (leaf : Leaf) → AreCounts s.counts → AreRead s s leaf 0
+pub read_nothing : (s : StoreView) (leaf : Leaf) → AreCounts s.counts → AreRead s s leaf 0
 read_nothing s (Stored owner desc kind) small =
     let none : counted s.counts.fetched 0 ≡ s.counts.fetched = omega (arith, small.fetched) in
     ap (λ (n : ℕ). let t : StoreView = record s { counts = record s.counts { fetched = n } } in t) (sym none)
@@ -97,7 +97,7 @@ row_is s (Gen desc kind) from step count place numbers =
     (length-map-upward cell place count)
     (λ j h. numbers j h ∙ sym (get_or-map-upward cell place count j (pos 0) h))
 
-cells_from-counted : (old now : StoreView) (leaf : Leaf) (first count : ℕ) → OnlyCounted old now → cells_from now leaf first count ≡ cells_from old leaf first count
+pub cells_from-counted : (old now : StoreView) (leaf : Leaf) (first count : ℕ) → OnlyCounted old now → cells_from now leaf first count ≡ cells_from old leaf first count
 cells_from-counted old now leaf first count only =
     map-upward-same (λ p. leaf_cell now leaf (index_at (leaf_shape leaf) p)) (λ p. leaf_cell old leaf (index_at (leaf_shape leaf) p)) first count
     (λ p low high. leaf_cell-counted old now leaf (index_at (leaf_shape leaf) p) only)
