@@ -3,14 +3,13 @@ use Rattle.std.proofs.Common.{ℕ, zero, suc, Bool, true, false, List, [], ◌�
 use Rattle.apl_base.specs.declared.faults.Place.{Place}
 use Rattle.apl_base.specs.Array.{Array}
 use Rattle.apl_model.specs.Environment.{look_up}
-use Rattle.apl_model.specs.Evaluation.{State, Calls, of_arrays, origin_of, replace_in, branch_to, branch_by, print_result}
+use Rattle.apl_model.specs.Evaluation.{State, Calls, of_arrays, origin_of, replace_in}
 use Rattle.apl_model.specs.Immediate.{of_states}
 use Rattle.apl_model.specs.Outcome.{Outcome, done, fails, spent, Flow, onwards}
-use Rattle.apl_model.specs.Whole.{is_empty, is_text}
 use Rattle.apl_model_laws.specs.Turns.{state_of}
 use Rattle.apl_model_laws.specs.Printing.{BeginsWith}
-use Rattle.apl_model_laws.proofs.Kept.{IsKept, Leads, leads_then, leads_needed, leads_at, leads_done, leads_name, leads_print, leads_call}
-use Rattle.apl_model_laws.proofs.Counted.{turns_kept}
+use Rattle.apl_model_laws.proofs.Kept.{IsKept, Leads, leads_at, leads_branch, leads_call, leads_done, leads_name, leads_needed, leads_print, leads_show, leads_then}
+use Rattle.apl_model_laws.proofs.Counted.{begins_onward, turns_kept}
 use Rattle.apl_compile.specs.declared.codes.Code.{Code}
 use Rattle.apl_compile.specs.declared.codes.Instruction.{Instruction}
 use Rattle.apl_compile.specs.declared.codes.Op.{Op}
@@ -32,18 +31,6 @@ goes_leads {R} k s (done a t) next h n = further (next a t) (n a t)
     further missing g = tt
 goes_leads k s (fails kind place t) next h n = record { to = h.to }
 goes_leads k s (spent t) next h n = record { to = h.to }
-
-branch_leads : {R : State → State → Type 0} → IsKept R → (place : Place) (a : Array) (s : State) → Leads R s (branch_to place a s)
-branch_leads {R} k place a s = by (is_empty a) (is_text a)
-  where
-    by : (e c : Bool) → Leads R s (branch_by e c a place s)
-    by true c = leads_done k _ s
-    by false true = record { to = k.same s }
-    by false false = leads_done k _ s
-
-show_leads : {R : State → State → Type 0} → IsKept R → (a : Option Array) (s : State) → Leads R s (print_result a s)
-show_leads k (Some a) s = leads_print k _ _ s
-show_leads k None s = leads_done k _ s
 
 module _ (R : State → State → Type 0) (k : IsKept R) (calls : Calls)
     (kept : (f : List ℕ) (place : Place) (left right : Option Array) (s : State) → Leads R s (calls f place left right s)) where
@@ -104,8 +91,8 @@ module _ (R : State → State → Type 0) (k : IsKept R) (calls : Calls)
   act_leads (op.Call f m whole) place vs to s next n = called_with_leads m whole f place vs to s next n
   act_leads op.Show place (a ∷ vs) to s next n = goes_leads k s _ _ (leads_print k a _ s) (λ v u. n (v ∷ vs) to u)
   act_leads op.Show place [] to s next n = tt
-  act_leads op.Print place vs to s next n = goes_leads k s _ _ (show_leads k (newest vs) s) (λ to u. n (others vs) to u)
-  act_leads op.Goto place (a ∷ vs) to s next n = goes_leads k s _ _ (branch_leads k place a s) (λ to u. n vs to u)
+  act_leads op.Print place vs to s next n = goes_leads k s _ _ (leads_show k (newest vs) s) (λ to u. n (others vs) to u)
+  act_leads op.Goto place (a ∷ vs) to s next n = goes_leads k s _ _ (leads_branch k place a s) (λ to u. n vs to u)
   act_leads op.Goto place [] to s next n = tt
   act_leads op.End place vs to s next n = leads_done k to s
 
@@ -124,9 +111,6 @@ module _ (R : State → State → Type 0) (k : IsKept R) (calls : Calls)
 
 begins_self : (text : List ℕ) → BeginsWith text text
 begins_self text = ([], sym (append-nil text))
-
-begins_onward : (a b c : List ℕ) → BeginsWith b a → BeginsWith c b → BeginsWith c a
-begins_onward a b c f g = (f.0 ++ g.0, g.1 ∙ ap (λ x. x ++ g.0) f.1 ∙ append_assoc a f.0 g.0)
 
 pub growing : IsKept Grows
 growing = record {

@@ -1,6 +1,6 @@
 -- The laws of pending expressions.
 use Rattle.std.proofs.Common.{◌≡◌, List, [], ◌∷◌, ◌++◌, map, Ok, Err, refl, sym, ap, ◌∙◌}
-use Rattle.std.specs.Prelude.{reverse, Result, ℕ, Option, Some, None}
+use Rattle.std.specs.Prelude.{reverse, Result, ℕ}
 use Rattle.std.specs.List.{zip}
 use Rattle.std.proofs.lemmas.List.{append_assoc, append-nil, reverse-append}
 use Rattle.apl_base.specs.declared.faults.ErrorKind.{ErrorKind}
@@ -9,16 +9,16 @@ use Rattle.apl_base.specs.declared.faults.Place.{Place}
 use Rattle.apl_base.specs.declared.rows.Dya.{Dya}
 use Rattle.apl_base.specs.Array.{Array, size_of}
 use Rattle.apl_base.specs.declared.cells.Elem.{Elem}
-use Rattle.apl_base.specs.Elements.{numbers, all_defined}
+use Rattle.apl_base.specs.Elements.{all_defined}
 use Rattle.apl_base.specs.Scalar.{scalar2}
 use Rattle.apl_model.specs.declared.functions.DyaFn.TheVariants as dyadic_fn
 use Rattle.apl_model.specs.Evaluation.{State, Calls, of_arrays, at_place}
 use Rattle.apl_model.specs.Lift.{fitting_shape, lift1, lift2, lift_over, lift_pairs, spread_to}
 use Rattle.apl_model.specs.Outcome.{Outcome, fails, Flow}
-use Rattle.apl_model.specs.Whole.{Answer, or_domain}
+use Rattle.apl_model.specs.Whole.{Answer}
 use Rattle.drag_along.specs.Meaning.{Meaning, Means, Faults, combined2}
 use Rattle.pending_laws.specs.Joins.{meaning_of}
-use Rattle.pending_laws.proofs.JoinLemmas.{one_is_the_lift, one_fault_is_domain}
+use Rattle.pending_laws.proofs.JoinLemmas.{one_fault_is_domain, one_is_the_lift, or_domain-error}
 use Rattle.pending_laws.proofs.ExtensionLemmas.{extended_join_is_the_lift}
 use Rattle.apl_compile.specs.declared.codes.Instruction.{Instruction}
 use Rattle.apl_compile.specs.declared.codes.Op.TheVariants as op
@@ -54,11 +54,6 @@ oldest_fault_ends arrays place younger to s =
     ∙ end_stays (fails error.Domain place s) younger
 
 -- ---- instructions
-
--- the only error of values is that one is undefined
-or_domain-error : (shape : List ℕ) (values : Option (List Elem)) (e : ErrorKind) → or_domain values (numbers shape) ≡ Err e → e ≡ error.Domain
-or_domain-error shape None e h = cc
-or_domain-error shape (Some es) e h = absurd cc
 
 pub end_is_kept : EndIsKept
 end_is_kept calls i o rest = refl

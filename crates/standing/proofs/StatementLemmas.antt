@@ -8,7 +8,7 @@ use Rattle.apl_model.proofs.Agreement.{translated_functions_agree}
 use Rattle.apl_model.specs.Agreement.{mapped_line, mapped_routine}
 use Rattle.apl_model.specs.Call.{Routine, RoutineLine, calls_of, on_turn}
 use Rattle.apl_model.specs.Evaluation.{State, Calls, of_arrays, statement_flow}
-use Rattle.apl_model.specs.Immediate.{definitions_of, of_states, routine, routine_line}
+use Rattle.apl_model.specs.Immediate.{definitions_of, of_states, routine}
 use Rattle.apl_model.specs.Outcome.{Outcome, Flow}
 use Rattle.apl_model.specs.Tree.{BodyLine, Definition, Item, Script, Statement, statement_item}
 use Rattle.apl_compile.specs.declared.codes.Code.{Code}
@@ -16,7 +16,7 @@ use Rattle.apl_compile.specs.Laws.{coded_line, coded_routine, code_at, statement
 use Rattle.apl_compile.specs.Program.{compiled, program_of}
 use Rattle.apl_compile.specs.Running.{code_meaning}
 use Rattle.apl_compile.proofs.CodedLemmas.{routines_are_coded, codes_are_in_order}
-use Rattle.apl_compile.proofs.ProgramLemmas.{statement_code_does}
+use Rattle.apl_compile.proofs.ProgramLemmas.{Placed, code_of_placed, placed_line, placed_routine, routines-plain, statement_code_does, statement_of_placed}
 use Rattle.standing.specs.Statements.{calls_in, StatementHasCode, EvaluatedByCode}
 
 -- ---- the code of a statement
@@ -43,23 +43,6 @@ statement_has_code script at line statement h =
 
 -- ---- calls by codes
 
--- a statement and its line
-record Placed : Type 0 where
-  line : ℕ
-  statement : Statement
-
-abbrev placed_line : BodyLine → RoutineLine Placed
-placed_line l = record { line = l.line; label = l.label; statement = record { line = l.line; statement = l.statement } }
-
-abbrev placed_routine : Definition → Routine Placed
-placed_routine d = record { header = d.header; body = map placed_line d.body }
-
-abbrev code_of_placed : Placed → Code
-code_of_placed p = compiled p.line p.statement
-
-abbrev statement_of_placed : Placed → Statement
-statement_of_placed p = p.statement
-
 lines-coded : (ls : List BodyLine) → map coded_line ls ≡ map (mapped_line code_of_placed) (map placed_line ls)
 lines-coded [] = refl
 lines-coded (l ∷ ls) = ap (λ (more : List (RoutineLine Code)). coded_line l ∷ more) (lines-coded ls)
@@ -69,16 +52,6 @@ routines-coded [] = refl
 routines-coded (d ∷ ds) =
     ap (λ (b : List (RoutineLine Code)). record { header = d.header; body = b } ∷ map coded_routine ds) (lines-coded d.body)
     ∙ ap (λ (rs : List (Routine Code)). mapped_routine code_of_placed (placed_routine d) ∷ rs) (routines-coded ds)
-
-lines-plain : (ls : List BodyLine) → map (mapped_line statement_of_placed) (map placed_line ls) ≡ map routine_line ls
-lines-plain [] = refl
-lines-plain (l ∷ ls) = ap (λ (more : List (RoutineLine Statement)). routine_line l ∷ more) (lines-plain ls)
-
-routines-plain : (ds : List Definition) → map (mapped_routine statement_of_placed) (map placed_routine ds) ≡ map routine ds
-routines-plain [] = refl
-routines-plain (d ∷ ds) =
-    ap (λ (b : List (RoutineLine Statement)). record { header = d.header; body = b } ∷ map (mapped_routine statement_of_placed) (map placed_routine ds)) (lines-plain d.body)
-    ∙ ap (λ (rs : List (Routine Statement)). routine d ∷ rs) (routines-plain ds)
 
 abbrev by_code : Calls → Code → State → Outcome State Flow
 by_code = code_meaning of_states of_arrays
