@@ -49,13 +49,22 @@ impl Scope {
         }
     }
 
+    // No names, and room for so many.
+    fn with_room(alloc: Global, count: usize) -> Result<Scope, NoMemory>
+        ensures empty { IfOk result (λ s. s ≡ []) }
+        ensures names { IfOk result AreNames }
+    {
+        let table = IndexMap::with_capacity(alloc, count)?;
+        Ok(Scope { table })
+    }
+
     // These names, each unset.
     pub(crate) fn declaring(alloc: Global, declared: &[Name]) -> Result<Scope, NoMemory>
         requires { IsDistinct is_same_name declared.now }
         ensures unset { IfOk result (λ s. s ≡ map unset declared.now) }
         ensures names { IfOk result AreNames }
     {
-        let mut scope = Scope::new(alloc);
+        let mut scope = Scope::with_room(alloc, declared.len())?;
         for name in declared {
             let Ok(()) = scope.put_new(alloc, name, None) else {
                 return Err(NoMemory);
