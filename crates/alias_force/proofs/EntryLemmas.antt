@@ -9,7 +9,7 @@ use Rattle.apl_base.specs.declared.cells.Interval.{Interval}
 use Rattle.apl_base.specs.Array.{Array, size_of}
 use Rattle.apl_base.specs.Interval.{InInterval, exact_interval}
 use Rattle.array_store.specs.Stores.{OwnerView, StoreView, IsStore, AreCounts, HasRoom, owner_at, owner_of, no_owner, holders_of, cells_of, interval_of, data_at, new_owner, counted}
-use Rattle.array_store.specs.Counting.{OnlyCounted, OnlyComputed}
+use Rattle.array_store.specs.Counting.{OnlyComputed}
 use Rattle.array_store.specs.Follows.{LeafCounts, Follows, Holds, none, one_of, both}
 use Rattle.array_store.specs.Came.{Came, Renews}
 use Rattle.array_store.proofs.StoreLemmas.{owner_of-found}
@@ -30,13 +30,8 @@ use Rattle.e_machine.specs.Forced.{elements_of, applications, fetches}
 use Rattle.leaf_names.proofs.KeptLemmas.{array_kept}
 use Rattle.alias_force.specs.Moving.{IsOwn, IsOwnOf, ComputesAll, CostsAtMost, OwnersCame, IsRefusedAt}
 use Rattle.alias_force.specs.Steps.{IsComputed, IsNotComputed, PutsLeaf, LetsGo, MovesEntry, RefusesEntry}
-
--- ---- where holders only go, no owner comes
-
-pub renews_gone : (old new : StoreView) (gone : LeafCounts) → Follows old new gone none → Renews old new []
-renews_gone old new gone follows = record {
-  each = λ key live. inl (omega (arith, follows.holders key, live), follows.kept key (omega (arith, follows.holders key, live)));
-}
+use Rattle.array_store.proofs.GoneLemmas.{renews_gone}
+use Rattle.array_store.proofs.RoomLemmas.{room_counted}
 
 -- ---- an entry that is refused
 
@@ -45,10 +40,6 @@ counted_means : (old new : StoreView) (g : SegmentView) → IsLawful old g → H
 counted_means old new g lawful holds follows =
     let beside : Holds old (both none (named_by g)) = λ key. omega (arith, holds key) in
     (segment_kept old new g (follows_keeps old new none none (named_by g) (named_by g) follows beside (λ key. omega arith)) lawful).1
-
--- room is left where something was only counted
-counted_room : (old new : StoreView) (n : ℕ) → OnlyCounted old new → HasRoom old n → HasRoom new n
-counted_room old new n only room = omega (arith, room, ap (λ (s : StoreView). s.live) only, ap (λ (s : StoreView). s.limit) only)
 
 -- the sums over one entry
 one_sum : (f : SegmentView → ℕ) (g : SegmentView) → sum_by f (g ∷ []) ≡ f g
@@ -75,12 +66,12 @@ no_costs old new g same =
 
 why_refused : (old new : StoreView) (g : SegmentView) (fault : ForceFault) → IsLawful old g → Holds old (named_by g) → Follows old new none none → IsNotComputed old new g fault → IsRefusedAt new g fault
 why_refused old new g (force.Fault place) lawful holds follows why =
-    (counted_means old new g lawful holds follows ∙ why.means, counted_room old new (elements_of g) why.counted.only why.room)
+    (counted_means old new g lawful holds follows ∙ why.means, room_counted old new (elements_of g) why.counted.only why.room)
 why_refused old new g (force.WsFull live asked) lawful holds follows why =
     let held : new.live ≡ old.live = ap (λ (s : StoreView). s.live) why.unchanged in
     let limit : new.limit ≡ old.limit = ap (λ (s : StoreView). s.limit) why.unchanged in
     record { live = why.live ∙ sym held; asked = why.asked; full = omega (arith, why.full, held, limit); unchanged = refl }
-why_refused old new g force.NoMemory lawful holds follows why = counted_room old new (elements_of g) why.1.only why.0
+why_refused old new g force.NoMemory lawful holds follows why = room_counted old new (elements_of g) why.1.only why.0
 
 refused_costs : (old new : StoreView) (g : SegmentView) (fault : ForceFault) → IsNotComputed old new g fault → CostsAtMost old new (g ∷ [])
 refused_costs old new g (force.Fault place) why = computed_costs old new g why.counted

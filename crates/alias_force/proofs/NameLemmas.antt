@@ -23,7 +23,8 @@ use Rattle.leaf_names.proofs.EachLemmas.{look_up-each, set_name-each, set_again}
 use Rattle.leaf_names.proofs.KeptLemmas.{lawful_kept, filling_kept, variables_kept, array_kept}
 use Rattle.alias_force.specs.Moving.{ComputesAll, OwnersCame, IsOwnOf}
 use Rattle.alias_force.specs.Writing.{CopiesName}
-use Rattle.alias_force.proofs.EntryLemmas.{IsFresh, left, own_of, renews_gone}
+use Rattle.alias_force.proofs.EntryLemmas.{IsFresh, left, own_of}
+use Rattle.array_store.proofs.GoneLemmas.{renews_gone}
 
 -- ---- the leaf that a name is bound to
 

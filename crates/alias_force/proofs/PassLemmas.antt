@@ -5,7 +5,7 @@ use Rattle.std.specs.List.{filter}
 use Rattle.std.proofs.lemmas.Bool.{cases_lt}
 use Rattle.std.proofs.lemmas.List.{append-nil, map-append, length-append}
 use Rattle.std.proofs.lemmas.List.Elements.{AllZip-push, filter-append}
-use Rattle.std.proofs.lemmas.List.Sums.{sum_by-cons, sum_by-append}
+use Rattle.std.proofs.lemmas.List.Sums.{sum_by-append}
 use Rattle.std.proofs.Math.Seq.{set-append_seam}
 use Rattle.apl_base.specs.Interval.{exact_interval}
 use Rattle.array_store.specs.Stores.{StoreView, AreCounts, holders_of, cells_of, interval_of, data_at}
@@ -20,12 +20,13 @@ use Rattle.drag_along.specs.Meaning.{Meaning, entry}
 use Rattle.drag_along.specs.Lawful.{IsLawful}
 use Rattle.drag_along.proofs.KeptLemmas.{follows_keeps}
 use Rattle.value_stack.specs.Stacks.{named_on, entries, IsLawfulStack, IsReplaced}
-use Rattle.value_stack.proofs.EntriesLemmas.{named_on_both, replaced, stack_kept}
+use Rattle.value_stack.proofs.EntriesLemmas.{named_on-cons, named_on_both, replaced, stack_kept}
 use Rattle.e_machine.specs.declared.faults.ForceFault.{ForceFault}
 use Rattle.e_machine.specs.Forced.{elements_of, applications, fetches}
 use Rattle.alias_force.specs.Moving.{IsOwn, IsMoved, AreMoved, ComputesAll, CostsAtMost, OwnersCame, StopsAt}
 use Rattle.alias_force.specs.Steps.{MovesEntry, RefusesEntry}
-use Rattle.alias_force.proofs.EntryLemmas.{one_of-self, renews_gone, computes_costs}
+use Rattle.alias_force.proofs.EntryLemmas.{one_of-self, computes_costs}
+use Rattle.array_store.proofs.GoneLemmas.{renews_gone}
 
 -- the pass stands before an entry: older ones are moved, younger ones are as they were
 pub record IsOnItsWay (test : SegmentView → Bool) (old now : StoreView) (before stack : List SegmentView) (at : ℕ) : Type 0 where
@@ -43,9 +44,6 @@ pub record IsOnItsWay (test : SegmentView → Bool) (old now : StoreView) (befor
   pub computes : ComputesAll old now (filter test older) 0
   pub came : OwnersCame old now (map elements_of (filter test older))
   pub idle : filter test older ≡ [] → now ≡ old
-
-named_on-cons : (g : SegmentView) (xs : List SegmentView) (key : ℕ) → named_on (g ∷ xs) key ≡ named_by g key + named_on xs key
-named_on-cons g xs key = sum_by-cons (λ (x : SegmentView). named_by x key) g xs
 
 -- ---- its beginning
 

@@ -4,7 +4,6 @@ use Rattle.std.specs.Prelude.{nat_lt}
 use Rattle.std.specs.List.{filter}
 use Rattle.std.proofs.lemmas.Bool.{cases_lt, cases_eq}
 use Rattle.std.proofs.lemmas.Bool.Decides.{nat_tests, Decides-ltb}
-use Rattle.std.proofs.lemmas.List.Sums.{sum_by-cons}
 use Rattle.apl_base.specs.declared.cells.Kind.{Kind}
 use Rattle.apl_base.specs.Array.{size_of}
 use Rattle.array_desc.specs.Desc.{DescView, IsWhole}
@@ -27,6 +26,7 @@ use Rattle.alias_force.specs.Steps.{IsNoFault, ReadsAll}
 use Rattle.alias_force.specs.Writing.{reads, HasAlone, ClearsReaders}
 use Rattle.alias_force.proofs.EntryLemmas.{one_of-self, one_of-other}
 use Rattle.alias_force.proofs.SafeLemmas.{IsSafe, safe_rest, safe_first, safe_cons}
+use Rattle.value_stack.proofs.EntriesLemmas.{named_on-cons}
 
 -- ---- a leaf that reads no owner
 
@@ -94,9 +94,6 @@ no_fault test old new before after (force.WsFull live asked) stops safe lawful =
 no_fault test old new before after force.NoMemory stops safe lawful = tt
 
 -- ---- who holds the owner afterwards
-
-named_on-cons : (g : SegmentView) (xs : List SegmentView) (key : ℕ) → named_on (g ∷ xs) key ≡ named_by g key + named_on xs key
-named_on-cons g xs key = sum_by-cons (λ (x : SegmentView). named_by x key) g xs
 
 -- an entry that has an owner of its own names no owner that another leaf holds too
 own_names_not : (s : StoreView) (y : SegmentView) (owner : ℕ) → IsOwn s y → named_by y owner + 1 ≤ holders_of s owner → named_by y owner ≡ 0

@@ -1,7 +1,7 @@
 -- Entries that may not fail: each means an array.
 use Rattle.std.specs.List.{filter}
 use Rattle.std.proofs.Common.{◌≡◌, ℕ, zero, suc, Bool, true, false, cond, List, [], ◌∷◌, ◌++◌, map, None, refl, sym, ap, ◌∙◌, subst, arith}
-use Rattle.std.specs.Prelude.{IsTrue, Result, Ok, Err, IfErr}
+use Rattle.std.specs.Prelude.{IsTrue}
 use Rattle.std.proofs.lemmas.List.{map-append}
 use Rattle.apl_base.specs.declared.faults.Place.{Place}
 use Rattle.apl_base.specs.declared.cells.Interval.{Interval}
@@ -89,11 +89,6 @@ pub oldest_fault : (old new : StoreView) (before after : List SegmentView) (faul
 oldest_fault old new before after (force.Fault place) lawful means stops = faults_first old new before after place lawful means stops
 oldest_fault old new before after (force.WsFull live asked) lawful means stops = tt
 oldest_fault old new before after force.NoMemory lawful means stops = tt
-
--- a clause on a refusal that follows from another
-pub if_err_weaker : {A E : Type 0} (r : Result A E) (P Q : E → Type 0) → ((e : E) → P e → Q e) → IfErr r P → IfErr r Q
-if_err_weaker (Ok x) P Q follows h = tt
-if_err_weaker (Err e) P Q follows h = follows e h
 
 -- none is to be settled
 pub safe_is_settled : (stack : List SegmentView) → IsSafe stack → filter may_fail stack ≡ []

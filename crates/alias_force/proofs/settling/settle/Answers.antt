@@ -1,7 +1,7 @@
-use Rattle.std.proofs.lemmas.Result.{on_ok_weaker}
+use Rattle.std.proofs.lemmas.Result.{IfErr-weaker, on_ok_weaker}
 use Rattle.value_stack.specs.Stacks.{entries}
 use Rattle.alias_force.specs.Moving.{may_fail, StopsAt, IsOldestFault}
-use Rattle.alias_force.proofs.SafeLemmas.{all_safe, oldest_fault, if_err_weaker}
+use Rattle.alias_force.proofs.SafeLemmas.{all_safe, oldest_fault}
 use Rattle.alias_force.proofs.settling.settle.Goals as goal
 
 pub returns-clause-safe : goal.returns-clause-safe
@@ -13,5 +13,5 @@ returns-clause-oldest c =
     let new = c.move_where.new.store in
     let before = c.args.stack.now in
     let after = c.move_where.new.stack in
-    if_err_weaker c.move_where.result (StopsAt may_fail old new before after) (IsOldestFault (entries old before))
+    IfErr-weaker c.move_where.result (StopsAt may_fail old new before after) (IsOldestFault (entries old before))
     (λ fault stops. oldest_fault old new before after fault c.move_where.ensures.lawful c.move_where.ensures.means stops) c.move_where.ensures.refused
