@@ -6,8 +6,8 @@ ghost use Rattle.drag_along.specs.Lawful.{IsLawfulLeaf};
 ghost use Rattle.array_store.specs.Stores.{StoreView};
 
 use crate::{Cost, PrintFault, write_cost, write_desc, write_leaf, write_refusal, write_report};
-use apl_base::{Cause, ErrorKind, Kind, Name, Place, Refusal, Shape};
-use apl_compile::compile_script;
+use apl_base::{Cause, ErrorKind, Kind, Name, NoMemory, Place, Refusal, Shape};
+use apl_compile::{Program, compile_script};
 use apl_model::{Line, Script, Text};
 use apl_outside::MemSink;
 use array_desc::Desc;
@@ -70,8 +70,20 @@ fn a_prefix_goes_out(rt: HostRuntime) -> Result<(), Fail> {
     Ok(())
 }
 
+// The program of a script of one line.
+fn program(alloc: Global) -> Result<Program, NoMemory> {
+    let mut lines = Items::new(alloc);
+    lines.push(Line {
+        number: 1,
+        text: Text::of(String::from_str(alloc, "2+1÷0 ⍝ no")?),
+        tokens: Items::new(alloc),
+    })?;
+    let items = Items::new(alloc);
+    compile_script(alloc, Script { lines, items })
+}
+
 // The lines of the other calls, one after the other.
-fn all_lines(alloc: Global, out: &mut MemSink) -> Result<(), Fail> {
+fn write_lines(alloc: Global, program: &Program, out: &mut MemSink) -> Result<(), PrintFault> {
     let refusal = Refusal {
         line: 3,
         column: 14,
@@ -90,27 +102,52 @@ fn all_lines(alloc: Global, out: &mut MemSink) -> Result<(), Fail> {
         kind: Kind::Num,
     };
     write_desc(alloc, &name, &leaf, out)?;
-    let mut lines = Items::new(alloc);
-    lines.push(Line {
-        number: 1,
-        text: Text::of(String::from_str(alloc, "2+1÷0 ⍝ no")?),
-        tokens: Items::new(alloc),
-    })?;
-    let items = Items::new(alloc);
-    let program = compile_script(alloc, Script { lines, items })?;
     let place = Place { line: 1, column: 4 };
-    write_report(alloc, ErrorKind::Domain, place, &program, out)?;
-    Ok(())
+    write_report(alloc, ErrorKind::Domain, place, program, out)
 }
 
-const LINES: &str =
-    "REFUSED 3 14 DOUBLE NAME\nCOST 1 20 300\nDESC ∆B G 3 ¯1 3\nDOMAIN ERROR\n      2+1÷0 ⍝ no\n         ^\n";
+const LINES: [&str; 4] = [
+    "REFUSED 3 14 DOUBLE NAME\n",
+    "COST 1 20 300\n",
+    "DESC ∆B G 3 ¯1 3\n",
+    "DOMAIN ERROR\n      2+1÷0 ⍝ no\n         ^\n",
+];
+
+// How many bytes of the lines so many pushes take, each of so many bytes at most.
+fn taken_by(pushes: usize, most: usize) -> usize {
+    let mut left = pushes;
+    let mut bytes = 0usize;
+    for line in LINES {
+        bytes = bytes.saturating_add(line.len().min(left.saturating_mul(most)));
+        left = left.saturating_sub(line.len().div_ceil(most.max(1)));
+    }
+    bytes
+}
+
+// Whether each sink that fails at a push has just the bytes of the pushes before, for so many bytes at a push.
+fn are_cut_at_each_push(alloc: Global, most: usize) -> Result<bool, Fail> {
+    let program = program(alloc)?;
+    let mut whole = String::new(alloc);
+    for line in LINES {
+        whole.push_str(line)?;
+    }
+    let mut holds = true;
+    for push in 1..150usize {
+        let mut out = sink(alloc, most, push as u64)?;
+        let answer = write_lines(alloc, &program, &mut out);
+        let taken = taken_by(push - 1, most).min(whole.len());
+        let cut = taken < whole.len();
+        let failed = answer == Err(PrintFault::OutFault);
+        holds = holds && cut == failed && cut != answer.is_ok();
+        holds = holds && out.bytes() == &whole.as_bytes()[..taken];
+    }
+    Ok(holds)
+}
 
 #[test]
-fn lines_go_out(rt: HostRuntime) -> Result<(), Fail> {
-    let mut out = sink(rt.alloc(), 7, 0)?;
-    all_lines(rt.alloc(), &mut out)?;
-    let same = out.bytes() == LINES.as_bytes();
-    assert!(rt; same);
+fn a_front_of_the_lines_goes_out(rt: HostRuntime) -> Result<(), Fail> {
+    for most in [1usize, 7, 64] {
+        assert!(rt; are_cut_at_each_push(rt.alloc(), most)?);
+    }
     Ok(())
 }
