@@ -1,6 +1,7 @@
 -- The search for the first fault over all places, and the cells where there is none.
 use Rattle.std.proofs.Common.{◌≡◌, ℕ, zero, suc, ◌+◌, ◌-◌, ◌*◌, ◌<◌, ◌≤◌, ℤ, pos, Bool, false, IsTrue, All, List, [], ◌∷◌, ◌++◌, length, Option, Some, None, unwrap_or, refl, sym, ap, ◌∙◌, subst, arith, inl, inr, length-append}
 use Rattle.std.proofs.Math.Nat.{mul-le-mul_right}
+use Rattle.std.specs.Option.{ForSome, option_or}
 use Rattle.std.proofs.lemmas.Bool.{cases_lt}
 use Rattle.std.proofs.lemmas.List.{get_or_append_left, get_or-append-add}
 use Rattle.std.proofs.lemmas.List.Elements.{All-append}
@@ -212,3 +213,54 @@ pub search_costs_next : (s now next : StoreView) (g : SegmentView) (p n first : 
 search_costs_next s now next g p n first cells found within cost =
     upto s next (p + n) (size_of g.shape) (functions_in g.nodes) (stored_in g.nodes) within
     (cost_next s now next p n (functions_in g.nodes) (stored_in g.nodes) found.cost cost)
+
+-- ---- what the search answers
+
+-- after p places: the first node that fails at one of them, if one does, and the cells where none does
+pub record Finds (s now : StoreView) (g : SegmentView) (p : ℕ) (failed : Option ℕ) (cells : List ℤ) : Type 0 where
+  pub below : ForSome failed (λ k. k < length g.nodes)
+  pub searched : Searched s now g p (unwrap_or failed (length g.nodes)) cells
+
+pub find_starts : (s : StoreView) (g : SegmentView) (cells : List ℤ) → AreCounts s.counts → cells ≡ [] → Finds s s g 0 None cells
+find_starts s g cells small empty = record {
+  below = λ k h. absurd (cc);
+  searched = search_starts s g (length g.nodes) cells small refl empty;
+}
+
+same : (k j : ℕ) → Some k ≡ Some j → k ≡ j
+same k j h = cc
+
+-- a block more
+pub find_next : (s now next : StoreView) (g : SegmentView) (p n : ℕ) (cells after : List ℤ) (failed earlier : Option ℕ)
+    → Finds s now g p failed cells → p + n ≤ size_of g.shape
+    → IsVisit now next g (unwrap_or failed (length g.nodes)) p n cells after earlier
+    → OnlyComputed now next (n * functions_in g.nodes) (n * stored_in g.nodes)
+    → Finds s next g (p + n) (option_or earlier failed) after
+find_next s now next g p n cells after failed None found within visit cost = record {
+  below = found.below;
+  searched = search_next s now next g p n (unwrap_or failed (length g.nodes)) cells after None found.searched within visit cost;
+}
+find_next s now next g p n cells after failed (Some k) found within visit cost = record {
+  below = λ j is. omega (arith, same k j is, visit.below, found.searched.few);
+  searched = search_next s now next g p n (unwrap_or failed (length g.nodes)) cells after (Some k) found.searched within visit cost;
+}
+
+pub find_finds : (s now : StoreView) (g : SegmentView) (p : ℕ) (failed : Option ℕ) (cells : List ℤ)
+    → Finds s now g p failed cells → size_of g.shape ≤ p → ForSome failed (IsFirstFault s g)
+find_finds s now g p None cells found all k is = absurd (cc)
+find_finds s now g p (Some j) cells found all k is =
+    subst (IsFirstFault s g) (same j k is) (search_finds s now g p j cells found.searched all (found.below j refl))
+
+pub find_computes : (s now : StoreView) (g : SegmentView) (p : ℕ) (failed : Option ℕ) (cells : List ℤ)
+    → IsSegment g → only_leaf g.nodes ≡ None → Finds s now g p failed cells → p ≤ size_of g.shape → size_of g.shape ≤ p
+    → failed ≡ None → HasElements s now g cells
+find_computes s now g p None cells seg many found within all is =
+    search_computes s now g p (length g.nodes) cells seg many found.searched within all (omega arith)
+find_computes s now g p (Some k) cells seg many found within all is = absurd (cc)
+
+-- a node that fails is one of the nodes
+pub fault_below : (s : StoreView) (g : SegmentView) (k : ℕ) → IsFirstFault s g k → k < length g.nodes
+fault_below s g k fault = elim (cases_lt k (length g.nodes)) [
+  | inl less ↦ less
+  | inr most ↦ absurd (apart (fails_at s fault.fails.0 g.nodes k []) fault.fails.2 (no_node s fault.fails.0 g.nodes k [] (omega (arith, most))))
+]

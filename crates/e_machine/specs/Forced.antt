@@ -26,6 +26,7 @@ elements_of segment = size_of segment.shape
 abbrev pub applications : SegmentView → ℕ
 applications segment = elements_of segment * functions_in segment.nodes
 
+-- so many cells are fetched at most
 abbrev pub fetches : SegmentView → ℕ
 fetches segment = elements_of segment * stored_in segment.nodes
 

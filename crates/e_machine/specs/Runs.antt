@@ -83,6 +83,7 @@ IsRun old new first n nodes columns (Some k) = FailsFirst old first n nodes k
 abbrev pub fails_in : StoreView → SegmentView → ℕ → ℕ → Bool
 fails_in store segment place j = fails_at store (index_at segment.shape place) segment.nodes j []
 
+-- the values pending at a place after all nodes
 abbrev pub values_in : StoreView → SegmentView → ℕ → List (Option Elem)
 values_in store segment place = values_at store (index_at segment.shape place) segment.nodes []
 

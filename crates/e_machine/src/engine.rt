@@ -1,6 +1,7 @@
 //! Pending expressions computed by blocks.
 
-ghost use Rattle.std.specs.Prelude.{◌≡◌, ◌+◌, ◌*◌, ◌<◌, ◌≤◌, [], ◌∷◌, length, IsSome, IfOk, OnOk, None};
+ghost use Rattle.std.specs.Prelude.{◌≡◌, ◌+◌, ◌*◌, ◌≤◌, [], ◌∷◌, length, IsSome, IfOk, OnOk, None};
+ghost use Rattle.std.specs.Option.{ForSome};
 ghost use Rattle.apl_base.specs.Array.{size_of};
 ghost use Rattle.array_store.specs.Stores.{IsStore};
 ghost use Rattle.array_store.specs.Counting.{OnlyComputed, ComputedJust};
@@ -133,14 +134,17 @@ fn most_pending(nodes: &[Node]) -> usize {
 }
 
 /// Computes the elements in row-major order, and puts their cells behind each other. It answers the number of the first
-/// node that fails at any index, or that of all nodes where none does.
-pub fn compute(s: &Segment, store: &mut Store, cells: &mut Vec<Cell>) -> Result<usize, NoMemory>
+/// node that fails at any index, if one does.
+pub fn compute(
+    s: &Segment,
+    store: &mut Store,
+    cells: &mut Vec<Cell>,
+) -> Result<Option<usize>, NoMemory>
     requires leaves { AllLeaves (IsLawfulLeaf store.old) s.now.nodes }
     requires many { only_leaf s.now.nodes ≡ None }
     requires empty { cells.old.items ≡ [] }
-    ensures fault { IfOk result (λ first. first < length s.now.nodes
-        → IsFirstFault store.old s.now first) }
-    ensures cells { IfOk result (λ first. length s.now.nodes ≤ first
+    ensures fault { IfOk result (λ failed. ForSome failed (IsFirstFault store.old s.now)) }
+    ensures cells { IfOk result (λ failed. failed ≡ None
         → HasElements store.old store.new s.now cells.new.items) }
     ensures counted { OnlyComputed store.old store.new (applications s.now) (fetches s.now) }
     ensures store { IsStore store.new }
@@ -149,13 +153,14 @@ pub fn compute(s: &Segment, store: &mut Store, cells: &mut Vec<Cell>) -> Result<
     let size = s.shape.size();
     let columns = most_pending(&s.nodes).min(MOST_COLUMNS);
     let mut pending = Columns::new(s.shape.allocator(), columns * BLOCK.min(size) as usize)?;
-    let mut first = s.nodes.len();
+    let mut failed = None;
     let mut done = 0;
     while done < size {
         let count = BLOCK.min(size - done);
-        let failed = visit(s, first, done, count as usize, store, &mut pending, cells)?;
-        first = failed.unwrap_or(first);
+        let limit = failed.unwrap_or(s.nodes.len());
+        let earlier = visit(s, limit, done, count as usize, store, &mut pending, cells)?;
+        failed = earlier.or(failed);
         done += count;
     }
-    Ok(first)
+    Ok(failed)
 }

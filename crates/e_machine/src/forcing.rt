@@ -51,9 +51,8 @@ fn computed(s: &Segment, store: &mut Store) -> Result<Leaf, ForceFault>
 {
     let _counts = store.counts();
     let mut cells = store.begin(s.shape.size())?;
-    let first = compute(s, store, &mut cells)?;
-    if first < s.nodes.len() {
-        let place = place_of(&s.nodes[first]);
+    if let Some(failed) = compute(s, store, &mut cells)? {
+        let place = place_of(&s.nodes[failed]);
         return Err(ForceFault::Fault { place });
     }
     let owner = store.make(cells, Kind::Num)?;
