@@ -14,7 +14,7 @@ use Rattle.apl_model.specs.Printed.{array_text}
 use Rattle.apl_print.specs.declared.grids.Grid.{Grid}
 use Rattle.apl_print.specs.Layout.{elements_text, grid_of, start, text_of_none, widened}
 use Rattle.apl_print.proofs.ArrayTexts.{grid_has, text_empty, text_of_line, text_of_table}
-use Rattle.apl_print.proofs.Reading.{length-cells_from}
+use Rattle.e_machine.proofs.ColumnLemmas.{length-cells_from}
 
 -- the grid of a leaf's kind and lengths
 pub grid_is : (leaf : Leaf) (grid : Grid) (kind : Kind) (lengths : List ℕ) → grid ≡ grid_of kind lengths → kind ≡ leaf_kind leaf → lengths ≡ leaf_shape leaf → grid ≡ grid_of (leaf_kind leaf) (leaf_shape leaf)

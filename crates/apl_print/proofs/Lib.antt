@@ -4,7 +4,7 @@ mod Layouts
 mod LeafTexts
 mod LineTexts
 mod Passes
-mod Pieces
+pub mod Pieces
 mod Reading
 mod ReportTexts
 mod Utf8

@@ -13,8 +13,10 @@ use Rattle.apl_print.specs.Layout.{column_after, elements_text, IsSpot, spot_aft
 use Rattle.apl_print.proofs.ColumnWidths.{column_after-append, widened-append}
 use Rattle.apl_print.proofs.Layouts.{elements-append, spot_after-append}
 use Rattle.apl_print.proofs.Pieces.{gains-nothing, gains-sent, prefix-front, prefix-sent, Sent, sent-more}
-use Rattle.apl_print.proofs.Reading.{cells_more, cells_read, read_none, read_then}
+use Rattle.apl_print.proofs.Reading.{cells_read, read_then}
 use Rattle.apl_print.proofs.Utf8.{Adds}
+use Rattle.e_machine.proofs.ReadLemmas.{read_nothing}
+use Rattle.e_machine.proofs.ColumnLemmas.{cells_more}
 
 -- the bytes of the elements at the first places
 pub bytes_to : StoreView → Leaf → Grid → List ℕ → ℕ → List ℕ
@@ -34,7 +36,7 @@ written_none a s leaf g ws at text small rows columns begins none = record {
   place = begins;
   lawful = subst (IsSpot g) (sym begins) (record { rows = rows; row = omega arith; column = columns });
   sent = record { front = []; whole = none; gained = gains-nothing a };
-  read = read_none s leaf small;
+  read = read_nothing s leaf small;
 }
 
 -- the bytes to a further place
@@ -137,7 +139,7 @@ pub record Widened (s t : StoreView) (leaf : Leaf) (g : Grid) (zeros ws : List �
   pub read : AreRead s t leaf done
 
 pub widened_none : (s : StoreView) (leaf : Leaf) (g : Grid) (zeros ws : List ℕ) (column : ℕ) → AreCounts s.counts → 0 < g.columns → ws ≡ zeros → column ≡ 0 → Widened s s leaf g zeros ws 0 column
-widened_none s leaf g zeros ws column small wide e begins = record { widths = e; place = begins; within = omega (arith, wide, begins); read = read_none s leaf small }
+widened_none s leaf g zeros ws column small wide e begins = record { widths = e; place = begins; within = omega (arith, wide, begins); read = read_nothing s leaf small }
 
 pub widened_more : (s t u : StoreView) (leaf : Leaf) (g : Grid) (zeros ws after : List ℕ) (done n column next : ℕ) (cells : List ℤ) → Widened s t leaf g zeros ws done column → cells ≡ cells_from t leaf done n →
     AreRead t u leaf n → after ≡ widened g column ws cells → next ≡ column_after g column cells → next < g.columns → Widened s u leaf g zeros after (done + n) next

@@ -1,25 +1,19 @@
 -- What binding a name anew does to it and to every other name.
 use Rattle.std.proofs.Common.{◌≡◌, ◌≢◌, ℕ, ◌+◌, ◌≤◌, Bool, true, false, ◌||◌, if◌then◌else◌, List, [], ◌∷◌, length, Option, Some, None, refl, sym, ap, ◌∙◌, subst, arith}
-use Rattle.std.specs.Cmp.Lexicographic.{bytes_decides}
 use Rattle.std.specs.List.{AllByRecursion, IsDistinct}
 use Rattle.std.proofs.lemmas.Map.Keys.{IsDistinct-head, IsDistinct-tail, IsDistinct-cons}
 use Rattle.apl_model.specs.Environment.{Bindings, Environment, is_same_name, declares, bound_in, bound_to, found_in, look_up, set_in_frames, declared_in, set_name, unset_global, erased}
 use Rattle.name_table.specs.Scopes.{names_of}
 use Rattle.name_table.specs.Laws.{SetIsFound, SetLeavesOthers, ErasedIsUnset, ErasedLeavesOthers}
+use Rattle.apl_model.proofs.SameNames.{same_name_is, same_self}
 
 -- ---- the same name
-
-pub same_self : (name : List ℕ) → is_same_name name name ≡ true
-same_self name = (bytes_decides name name).1 refl
-
-pub same_is : (a b : List ℕ) → is_same_name a b ≡ true → a ≡ b
-same_is a b e = (bytes_decides a b).0 e
 
 pub not_same : (a b : List ℕ) → a ≢ b → is_same_name a b ≡ false
 not_same a b differs = by (is_same_name a b) refl
   where
     by : (t : Bool) → is_same_name a b ≡ t → t ≡ false
-    by true e = absurd (differs (same_is a b e))
+    by true e = absurd (differs (same_name_is a b e))
     by false e = refl
 
 pub true_or : (t : Bool) → t ≡ true → (b : Bool) → t || b ≡ true
@@ -56,7 +50,7 @@ module _ {A : Type 0} where
   -- what other names see: the head where the name stands
   other_head : (b : List ℕ × Option A) (name other : List ℕ) → is_same_name b.0 name ≡ true → other ≢ name → (is_same_name name other ≡ false) × (is_same_name b.0 other ≡ false)
   other_head b name other e differs =
-      (not_same name other (λ p. differs (sym p)), not_same b.0 other (λ p. differs (sym p ∙ same_is b.0 name e)))
+      (not_same name other (λ p. differs (sym p)), not_same b.0 other (λ p. differs (sym p ∙ same_name_is b.0 name e)))
 
   pub declares-other : (bs : Bindings A) (name other : List ℕ) (a : Option A) → other ≢ name → declares (bound_to bs name a) other ≡ declares bs other
   declares-other [] name other a differs = ap (λ t. t || false) (not_same name other (λ p. differs (sym p)))
@@ -176,7 +170,7 @@ module _ {A : Type 0} where
 
       by : (t : Bool) → is_same_name b.0 name ≡ t → IsDistinct is_same_name (names_of (bound_to bs name a)) → IsDistinct is_same_name (names_of (if t then (name, a) ∷ bs else b ∷ bound_to bs name a))
       by true e rest =
-          IsDistinct-cons is_same_name name (names_of bs) (subst (λ n. AllByRecursion (λ y. is_same_name n y ≡ false) (names_of bs)) (same_is b.0 name e) head) tail
+          IsDistinct-cons is_same_name name (names_of bs) (subst (λ n. AllByRecursion (λ y. is_same_name n y ≡ false) (names_of bs)) (same_name_is b.0 name e) head) tail
       by false e rest =
           IsDistinct-cons is_same_name b.0 (names_of (bound_to bs name a)) (names_so (λ y. is_same_name b.0 y ≡ false) bs name a e head) rest
 

@@ -9,7 +9,8 @@ use Rattle.apl_model.specs.Environment.{Bindings, Environment, is_same_name, dec
 use Rattle.apl_model.specs.Frames.{unset, argument_binding, label_bindings, frame_of}
 use Rattle.name_table.specs.Scopes.{names_of}
 use Rattle.name_table.specs.Laws.{label_names, declared_by, with_argument, with_labels, CallFrameIsFilled}
-use Rattle.name_table.proofs.BindingLemmas.{same_self, true_or}
+use Rattle.name_table.proofs.BindingLemmas.{true_or}
+use Rattle.apl_model.proofs.SameNames.{same_self}
 
 unset-names : (A : Type 0) (names : List (List ℕ)) → names_of (let bs : Bindings A = map unset names in bs) ≡ names
 unset-names A [] = refl

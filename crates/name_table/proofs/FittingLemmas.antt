@@ -1,7 +1,7 @@
 -- The leaf that a name is given: the one at hand, or its copy.
 use Rattle.std.proofs.Common.{◌≡◌, ℕ, ◌+◌, ◌<◌, ℤ, List, [], ◌∷◌, length, Option, Some, None, unwrap_or, Result, Ok, Err, IfOk, IfErr, OnOk, refl, sym, ap, ◌∙◌, subst, inl, inr, arith}
 use Rattle.std.specs.Option.{option_map}
-use Rattle.apl_base.specs.Array.{Array, size_of}
+use Rattle.apl_base.specs.Array.{size_of}
 use Rattle.array_desc.specs.Desc.{IsDesc}
 use Rattle.array_store.specs.Stores.{OwnerView, OwnerData, StoreView, AreCounts, HasRoom, owner_at, owner_data, no_owner, holders_of, cells_of, new_owner}
 use Rattle.array_store.specs.Came.{Renews}
@@ -15,15 +15,14 @@ use Rattle.array_store.proofs.CountingLemmas.{costs_nothing, costs_then, costs_m
 use Rattle.array_store.proofs.FollowsLemmas.{follows_then, follows_beside, follows_counted}
 use Rattle.drag_along.specs.declared.leaves.Leaf.{Leaf}
 use Rattle.drag_along.specs.Nodes.{leaf_desc, named_by_leaf}
-use Rattle.drag_along.specs.Lawful.{IsLawfulLeaf, SameData}
-use Rattle.drag_along.specs.Meaning.{leaf_array}
+use Rattle.drag_along.specs.Lawful.{IsLawfulLeaf}
 use Rattle.drag_along.specs.Views.{StandsForArray}
-use Rattle.drag_along.proofs.KeptLemmas.{follows_keeps, lawful_leaf_kept}
+use Rattle.drag_along.proofs.KeptLemmas.{follows_keeps}
 use Rattle.e_machine.specs.Forced.{IsCopy, IsCopyFault, named_by_answer}
 use Rattle.leaf_names.specs.Variables.{array_of, FillsOwner}
-use Rattle.leaf_names.proofs.KeptLemmas.{array_kept}
 use Rattle.name_table.specs.Names.{elements_of, IsPut, IsSetFault}
-use Rattle.name_table.proofs.ReleaseLemmas.{renews_released}
+use Rattle.array_store.proofs.GoneLemmas.{renews_gone}
+use Rattle.leaf_names.proofs.StandsLemmas.{stands_kept}
 
 -- ---- an owner that no leaf names that goes
 
@@ -43,17 +42,6 @@ kept_owner a b gone key o f unnamed found held =
     same_owner o (owner_at b key) (f.kept key (omega (arith, had, held, unnamed)) ∙ ap (option_map owner_data) found) (omega (arith, f.holders key, had, unnamed))
 
 -- ---- arrays that leaves stand for
-
--- over the same data a leaf stands for the same array
-pub stands_later : (old new : StoreView) (leaf : Leaf) (a : Array) → SameData old new (named_by_leaf leaf) → StandsForArray old leaf a → StandsForArray new leaf a
-stands_later old new leaf a same h =
-    let whole : array_of new leaf ≡ array_of old leaf = array_kept old new leaf same h.lawful in
-    record {
-      lawful = lawful_leaf_kept old new leaf same h.lawful;
-      shape = h.shape;
-      kind = h.kind;
-      array = ap (λ (ns : List ℕ). leaf_array new ns leaf) (sym h.shape.same) ∙ whole ∙ ap (λ (ns : List ℕ). leaf_array old ns leaf) h.shape.same ∙ h.array;
-    }
 
 -- it stands for its own
 pub stands_itself : (s : StoreView) (leaf : Leaf) → IsDesc (leaf_desc leaf) → IsLawfulLeaf s leaf → StandsForArray s leaf (array_of s leaf)
@@ -101,7 +89,7 @@ module _ (old copied : StoreView) (leaf copy : Leaf) (is : IsCopy old copied lea
 -- what was put stays so while other leaves go, those that name no owner which came
 pub put_later : (old new later : StoreView) (leaf put : Leaf) (gone : LeafCounts) → IsPut old new leaf put → Follows new later gone none → ((key : ℕ) → holders_of old key ≡ 0 → gone key ≡ 0) → later.counts ≡ new.counts → IsPut old later leaf put
 put_later old new later leaf put gone (inl p) f unnamed same =
-    inl (record { fills = p.fills; same = p.same; counts = same ∙ p.counts; renews = renews_then old new later [] [] p.renews (renews_released new later gone f) })
+    inl (record { fills = p.fills; same = p.same; counts = same ∙ p.counts; renews = renews_then old new later [] [] p.renews (renews_gone new later gone f) })
 put_later old new later leaf put gone (inr p) f unnamed same =
     inr (record {
       partial = p.partial;
@@ -112,7 +100,7 @@ put_later old new later leaf put gone (inr p) f unnamed same =
       owner =
           kept_owner new later gone p.copy.made.key (new_owner (array_of old leaf).cells (array_of old leaf).kind) f (unnamed p.copy.made.key (its_free old p.copied leaf put p.copy)) p.owner (omega arith);
       renews =
-          renews_then old new later (record { key = p.copy.made.key; cells = elements_of leaf } ∷ []) [] p.renews (renews_released new later gone f);
+          renews_then old new later (record { key = p.copy.made.key; cells = elements_of leaf } ∷ []) [] p.renews (renews_gone new later gone f);
     })
 
 -- ---- what it cost
@@ -152,7 +140,7 @@ module _ (old copied new : StoreView) (leaf : Leaf) (partial : FillsOwner old le
   pub answer_stands : (r : Result Leaf BeginFault) → IfOk r (IsCopy old copied leaf) → Follows old copied none (named_by_answer r) → IfOk r (λ put. StandsForArray new put (array_of old leaf))
   answer_stands (Ok copy) is follows =
       let beside : Holds copied (both (named_by_leaf leaf) (named_by_leaf copy)) = λ key. omega (arith, follows.holders key, held key) in
-      stands_later copied new copy (array_of old leaf) (follows_keeps copied new (named_by_leaf leaf) none (named_by_leaf copy) (named_by_leaf copy) gone beside (λ key. omega arith)) is.stands
+      stands_kept copied new copy (array_of old leaf) (follows_keeps copied new (named_by_leaf leaf) none (named_by_leaf copy) (named_by_leaf copy) gone beside (λ key. omega arith)) is.stands
   answer_stands (Err why) is follows = tt
 
   pub answer_fills : (r : Result Leaf BeginFault) → IfOk r (IsCopy old copied leaf) → IfOk r (FillsOwner new)

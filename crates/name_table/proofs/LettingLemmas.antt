@@ -15,7 +15,7 @@ use Rattle.leaf_names.proofs.CountLemmas.{named-cons, unset-named, with_frame-na
 use Rattle.leaf_names.proofs.EachLemmas.{unset-each}
 use Rattle.leaf_names.proofs.KeptLemmas.{lawful_kept, filling_kept, variables_kept}
 use Rattle.name_table.specs.Names.{LetsGo}
-use Rattle.name_table.proofs.ReleaseLemmas.{renews_released}
+use Rattle.array_store.proofs.GoneLemmas.{renews_gone}
 
 -- ---- what names stand for
 
@@ -76,7 +76,7 @@ lets_go old new before after gone count held f same lawful fills =
       lawful = lawful_kept old new after data_same lawful;
       fills = λ h. filling_kept old new after data_same (fills h);
       counts = same;
-      renews = renews_released old new gone f;
+      renews = renews_gone old new gone f;
     }
 
 pub means_left : (old new : StoreView) (before after : Environment Leaf) (gone : LeafCounts) → ((key : ℕ) → named_by_names before key ≡ gone key + named_by_names after key) → Holds old (named_by_names before) → Follows old new gone none → AreLawfulNames old after → (origin : ℤ) → variables_of new origin after ≡ variables_of old origin after

@@ -1,23 +1,16 @@
 -- Leaves that are let go: holders follow them.
-use Rattle.std.proofs.Common.{◌≡◌, ℕ, ◌+◌, List, [], ◌∷◌, ◌++◌, String, Option, refl, sym, ap, inl, arith}
+use Rattle.std.proofs.Common.{◌≡◌, ℕ, ◌+◌, List, [], ◌∷◌, ◌++◌, String, Option, refl, sym, ap, arith}
 use Rattle.std.proofs.lemmas.List.{map-append}
 use Rattle.std.proofs.lemmas.List.Sums.{sum_by-append, sum_by-cons}
 use Rattle.std.specs.Str.{chars}
 use Rattle.std.specs.String.{string_bytes}
 use Rattle.array_store.specs.Stores.{StoreView}
-use Rattle.array_store.specs.Came.{Renews}
 use Rattle.array_store.specs.Follows.{LeafCounts, Follows, Holds, none, both}
 use Rattle.array_store.proofs.FollowsLemmas.{follows_then, follows_beside, follows_counted}
 use Rattle.drag_along.specs.declared.leaves.Leaf.{Leaf}
 use Rattle.apl_model.specs.Environment.{Bindings}
 use Rattle.leaf_names.specs.Variables.{named_by_option, named_by_bindings}
 use Rattle.name_table.specs.Scopes.{bindings_of}
-
--- where leaves only go, no owner comes
-pub renews_released : (old new : StoreView) (gone : LeafCounts) → Follows old new gone none → Renews old new []
-renews_released old new gone f = record {
-  each = λ key live. inl (omega (arith, f.holders key, live), f.kept key (omega (arith, f.holders key, live)));
-}
 
 module _ {Y : Type 0} where
   -- the leaves of a table

@@ -16,8 +16,9 @@ use Rattle.leaf_names.proofs.CountLemmas.{set_name-named, look_up-named}
 use Rattle.leaf_names.proofs.EachLemmas.{set_name-each}
 use Rattle.leaf_names.proofs.KeptLemmas.{lawful_kept, filling_kept, variables_kept}
 use Rattle.name_table.specs.Names.{IsPut, IsSet}
-use Rattle.name_table.proofs.FittingLemmas.{put_later, stands_later}
+use Rattle.name_table.proofs.FittingLemmas.{put_later}
 use Rattle.name_table.proofs.LettingLemmas.{variables-set}
+use Rattle.leaf_names.proofs.StandsLemmas.{stands_kept}
 
 -- names over a store in which a leaf beside them was exchanged for another
 exchanged : (old new : StoreView) (before after : LeafCounts) (names : Environment Leaf) → Holds old (both (named_by_names names) before) → Follows old new before after → SameData old new (named_by_names names)
@@ -64,7 +65,7 @@ module _ (old fit new : StoreView) (before after : Environment Leaf) (name : Lis
     put = put;
     names = is;
     comes = put_later old fit new leaf put (named_by_option bound) comes goes unnamed same;
-    stands = stands_later fit new put (array_of old leaf) put_same stands;
+    stands = stands_kept fit new put (array_of old leaf) put_same stands;
   }
 
   lawful_between : AreLawfulNames fit after

@@ -1,22 +1,17 @@
 -- A table by texts, seen as bindings: what its calls answer and leave is what the definitions say.
 use Rattle.std.proofs.Common.{◌≡◌, ℕ, ◌<◌, ◌^◌, Bool, true, false, ◌||◌, cond, if◌then◌else◌, List, [], ◌∷◌, length, String, Option, Some, None, Result, Ok, Err, OnOk, OnErr, MatchResult, MatchOption, IfSome, Bor, is_some, refl, sym, ap, ◌∙◌, subst, arith}
 use Rattle.std.proofs.lemmas.List.{length-map}
-use Rattle.std.proofs.lemmas.Str.{encodes-chars}
 use Rattle.std.specs.Cmp.Lexicographic.{bytes_decides}
 use Rattle.std.specs.List.{AllByRecursion, IsDistinct}
 use Rattle.std.specs.Map.{lookup, set_value}
 use Rattle.std.specs.Option.{option_copied}
 use Rattle.std.specs.Str.{bytes_eq, chars, IsUtf8}
 use Rattle.std.specs.String.{string_bytes, string_eq}
-use lib.Utf8.{encodes}
 use Rattle.indexmap.specs.IndexMap.{insert_entry}
 use Rattle.apl_model.specs.Environment.{Bindings, is_same_name, declares, bound_in, bound_to}
 use Rattle.name_table.specs.Scopes.{AreNames, bindings_of, IsTable}
 use Rattle.name_table.proofs.BindingLemmas.{differ-bound_to, count-bound_to, count-rebound}
-
--- texts are the same where their characters are
-same_texts : (a b : List ℕ) → IsUtf8 a → IsUtf8 b → chars a ≡ chars b → a ≡ b
-same_texts a b u v e = sym (encodes-chars a u) ∙ ap encodes e ∙ encodes-chars b v
+use Rattle.apl_model.proofs.SameNames.{same_texts}
 
 -- a test of texts is one of names
 pub same_tests : (text bs name : List ℕ) → IsUtf8 text → IsUtf8 bs → chars text ≡ name → is_same_name (chars bs) name ≡ bytes_eq text bs
