@@ -12,3 +12,4 @@ pub mod AxisLemmas
 pub mod TurnLemmas
 pub mod TestLemmas
 pub mod BlockLemmas
+pub mod MarkLemmas

@@ -1,5 +1,5 @@
 //! Compression: the elements along an axis where bits are 1.
-ghost use Rattle.std.specs.Prelude.{◌≡◌, ◌⊎◌, ◌+◌, ◌*◌, ◌==◌, ◌&&◌, ◌<◌, ◌≤◌, not, nat_le, pos, slice_index, Some, Ok, Err, [], map, length, IfOk, IfErr, OnOk, vec_capacity};
+ghost use Rattle.std.specs.Prelude.{◌≡◌, ◌⊎◌, ◌+◌, ◌*◌, ◌==◌, ◌&&◌, ◌<◌, ◌≤◌, not, nat_le, pos, ◌≢◌, IsTrue, slice_index, Some, Ok, Err, [], map, length, IfOk, IfErr, OnOk, vec_capacity};
 ghost use Rattle.apl_base.specs.Array.{size_of, IsShape};
 ghost use Rattle.array_desc.specs.Desc.{IsDesc};
 ghost use Rattle.array_store.specs.Stores.{StoreView, IsStore};
@@ -17,6 +17,7 @@ use crate::extends::{
     are_bits, bits_along, extended_cells, extended_shape, is_one, ones_along, with_length,
 };
 use crate::leaves::{elements, is_extendable, lengths, rank};
+use crate::marks::keep_marked;
 use crate::spreads::spread;
 use apl_base::{Cell, ErrorKind, NoMemory, Shape};
 use apl_model::Axis;
@@ -143,6 +144,10 @@ fn fill_kept(
     if shape.size() == 0 {
         return Ok(());
     }
+    if are_beside(a, b) {
+        keep_marked(a, b, store, cells);
+        return Ok(());
+    }
     let whole = extended_shape(b, elements(a));
     let axis = whole.len(along);
     let bits = bits_along(a, axis, store)?;
@@ -158,6 +163,14 @@ fn fill_kept(
         cells,
     );
     Ok(())
+}
+
+// Whether B is a vector and A has an element beside each of its elements, and not only one.
+fn are_beside(a: &Leaf, b: &Leaf) -> bool
+    ensures { IsTrue result → (length (leaf_shape b.now) ≡ 1)
+        × (elements_in a.now ≡ elements_in b.now) × (elements_in a.now ≢ 1) }
+{
+    rank(b) == 1 && elements(a) == elements(b) && elements(a) != 1
 }
 
 // The places of the ones, counted from 0.

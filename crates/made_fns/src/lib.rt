@@ -8,6 +8,7 @@ mod extends;
 mod joins;
 mod keeps;
 pub mod leaves;
+mod marks;
 mod reshapes;
 pub mod scans;
 mod spaces;

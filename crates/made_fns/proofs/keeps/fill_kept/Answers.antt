@@ -1,11 +1,17 @@
-use Rattle.std.proofs.Common.{◌∙◌, ◌<◌, ℕ, ℤ, List, Some, map, length, ap, sym, subst, arith}
+use Rattle.std.proofs.Common.{◌∙◌, ◌<◌, ℕ, ℤ, List, Some, map, length, refl, ap, sym, subst, arith}
 use Rattle.apl_base.specs.Array.{Array, size_of}
 use Rattle.apl_model.specs.Made.{extended_to, ones_from}
 use Rattle.leaf_names.specs.Variables.{array_of}
 use Rattle.made_fns.specs.Answers.{elements_in}
 use Rattle.made_fns.proofs.Lengths.{array_of-counted, length-array_of}
 use Rattle.made_fns.proofs.KeepLemmas.{kept_facts}
+use Rattle.made_fns.proofs.MarkLemmas.{kept_vector}
 use Rattle.made_fns.proofs.keeps.fill_kept.Goals as goal
+
+pub returns-then-are_beside-clause-cells : goal.returns-then-are_beside-clause-cells
+returns-then-are_beside-clause-cells c =
+    let s = c.args.store.now in
+    c.keep_marked.ensures.cells ∙ sym (kept_vector c.args.along (array_of s c.args.a.now) (array_of s c.args.b.now) c.requires.can (c.if-are_beside.ensures refl).0 (c.if-are_beside.ensures refl).1 (c.if-are_beside.ensures refl).2)
 
 pub len-axis-requires : goal.len-axis-requires
 len-axis-requires c =
