@@ -8,3 +8,4 @@ pub mod Graded
 pub mod Decoding
 pub mod Encoding
 pub mod Encoded
+pub mod Merged

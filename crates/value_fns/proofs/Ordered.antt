@@ -142,7 +142,7 @@ pub Rises-from_sorted : (xs : List Placed) → IsSortedBy is_below xs → Rises 
 Rises-from_sorted [] h = tt
 Rises-from_sorted (x ∷ xs) h = (first_least x xs h, Rises-from_sorted xs (rest_sorted x xs h))
 
-sorted_below : (xs : List Placed) → IsSortedByKey cell_of int_cmp xs → IsSortedBy is_below xs
+pub sorted_below : (xs : List Placed) → IsSortedByKey cell_of int_cmp xs → IsSortedBy is_below xs
 sorted_below xs h = subst (λ (lt : Placed → Placed → Bool). IsSortedBy lt xs) (λ i x y. below_test x y i) h
 
 stable_below : (xs ys : List Placed) → IsStableByKey cell_of int_cmp xs ys → IsStableBy is_below xs ys
@@ -222,7 +222,7 @@ pub length-placed_from : (p : ℕ) (cells : List ℤ) → length (placed_from p 
 length-placed_from p [] = refl
 length-placed_from p (c ∷ cells) = ap suc (length-placed_from (suc p) cells)
 
-get_or-placed_from : (p : ℕ) (cells : List ℤ) (k : ℕ) (d : Placed) → k < length cells → (slice_index_or cells k (pos 0), p + k) ≡ get_or (placed_from p cells) k d
+pub get_or-placed_from : (p : ℕ) (cells : List ℤ) (k : ℕ) (d : Placed) → k < length cells → (slice_index_or cells k (pos 0), p + k) ≡ get_or (placed_from p cells) k d
 get_or-placed_from p [] k d h = absurd (omega arith)
 get_or-placed_from p (c ∷ cells) zero d h = let e : p + 0 ≡ p = omega arith in ap (λ (n : ℕ). let x : Placed = (c, n) in x) e
 get_or-placed_from p (c ∷ cells) (suc k) d h =

@@ -7,6 +7,7 @@ mod encodes;
 mod grades;
 mod kinds;
 mod memberships;
+mod merges;
 mod orders;
 mod searches;
 

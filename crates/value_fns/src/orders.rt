@@ -1,6 +1,7 @@
 //! Elements with their places, in order.
 
 ghost use Rattle.std.specs.Prelude.{◌≡◌, ◌<◌, ◌≤◌, pos, neg_ℤ, map, length, All, IfOk, OnOk};
+ghost use Rattle.std.specs.List.Sorted.{IsPermutation};
 ghost use Rattle.apl_base.specs.Number.{IsNumber};
 ghost use Rattle.apl_base.specs.Selection.{upward};
 ghost use Rattle.apl_model.specs.Made.{counted_from, in_order};
@@ -65,7 +66,9 @@ fn numbered(alloc: Global, cells: &[Cell]) -> Result<Vec<(Cell, u64)>, NoMemory>
 
 /// The cells with their places, counted from 0, in rising order of the cells. Equal cells keep their order.
 pub(crate) fn index_cells(alloc: Global, cells: &[Cell]) -> Result<Vec<(Cell, u64)>, NoMemory>
-    ensures { IfOk result (λ placed. IsIndex cells.now placed.items) }
+    ensures index { IfOk result (λ placed. IsIndex cells.now placed.items) }
+    ensures permutation { IfOk result (λ placed.
+        IsPermutation (placed_from 0 cells.now) placed.items) }
 {
     let mut placed = numbered(alloc, cells)?;
     placed.sort_by_key(|pair| pair.0)?;

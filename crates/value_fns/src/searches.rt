@@ -1,6 +1,7 @@
 //! The first place of an element among others.
 
-ghost use Rattle.std.specs.Prelude.{◌≡◌, ◌+◌, ◌≤◌, [], pos, map, length, replicate, OnOk, vec_len, vec_capacity};
+ghost use Rattle.std.specs.Prelude.{◌≡◌, ◌+◌, ◌≤◌, [], true, false, pos, int_lt, map, length, replicate, OnOk, vec_len, vec_capacity};
+ghost use Rattle.std.specs.List.Sorted.{IsPartitionPoint};
 ghost use Rattle.apl_base.specs.Array.{size_of};
 ghost use Rattle.array_store.specs.Stores.{IsStore};
 ghost use Rattle.array_store.specs.Counting.{OnlyFetched};
@@ -8,10 +9,11 @@ ghost use Rattle.drag_along.specs.Nodes.{leaf_shape};
 ghost use Rattle.drag_along.specs.Lawful.{IsLawfulLeaf};
 ghost use Rattle.leaf_names.specs.Variables.{array_of};
 ghost use Rattle.apl_model.specs.Made.{counted_from};
-ghost use Rattle.value_fns.specs.Placed.{IsIndex, first_place};
+ghost use Rattle.value_fns.specs.Placed.{IsIndex, Placed, first_place};
 ghost use Rattle.value_fns.specs.Searches.{first_places};
 
 use crate::kinds::is_one_kind;
+use crate::merges::find_by_merge;
 use crate::orders::index_cells;
 use apl_base::{Cell, NoMemory};
 use array_store::Store;
@@ -21,6 +23,11 @@ use std::alloc::Global;
 
 // So few cells are searched one by one.
 const FEW: usize = 8;
+
+// Among so many cells, and for this share of them, the wanted ones are put in order too, so that memory is read in order.
+const MANY: usize = 4096;
+
+const SHARE: usize = 16;
 
 /// Puts, for each element of a leaf, its first place among the elements of another, counted from the origin, or the
 /// origin and how many these are where it is not among them, into an empty vector that has room for them. Each element
@@ -69,7 +76,8 @@ fn fill(count: u64, number: u64, into: &mut Vec<Cell>)
 }
 
 // Puts in the place of each wanted cell its first place among the cells, counted from the origin, or the origin and how
-// many these are where it is not among them. Many are found by an index of the cells.
+// many these are where it is not among them. Many are found by an index of the cells, and many
+// among very many by an index of both.
 fn find_cells(
     alloc: Global,
     cells: &[Cell],
@@ -82,10 +90,15 @@ fn find_cells(
 {
     if cells.len() <= FEW || wanted.len() <= FEW {
         find_by_steps(cells, origin, wanted);
-    } else {
-        let index = index_cells(alloc, cells)?;
-        find_by_index(cells, index.as_slice(), origin, wanted);
+        return Ok(());
     }
+    let index = index_cells(alloc, cells)?;
+    if cells.len() < MANY || wanted.len() < cells.len() / SHARE {
+        find_by_index(cells, index.as_slice(), origin, wanted);
+        return Ok(());
+    }
+    let order = index_cells(alloc, wanted)?;
+    find_by_merge(cells, index.as_slice(), order.as_slice(), origin, wanted);
     Ok(())
 }
 
@@ -130,6 +143,17 @@ fn place_by_index(cells: &[Cell], index: &[(Cell, u64)], wanted: Cell) -> u64
     ensures { result ≡ first_place cells.now wanted }
 {
     let from = index.partition_point(|pair| pair.0 < wanted);
+    place_from(cells, index, from, wanted)
+}
+
+/// How many of the cells stand before the first that is `wanted`: all, where none is. An index of the cells parts at
+/// `from` into those less than it and the others.
+pub(crate) fn place_from(cells: &[Cell], index: &[(Cell, u64)], from: usize, wanted: Cell) -> u64
+    requires index { IsIndex cells.now index.now }
+    requires parts { IsPartitionPoint (λ (y : Placed). int_lt y.0 wanted ≡ true)
+        (λ (y : Placed). int_lt y.0 wanted ≡ false) index.now from }
+    ensures { result ≡ first_place cells.now wanted }
+{
     match index.get(from) {
         Some(pair) if pair.0 == wanted => pair.1,
         _ => cells.len() as u64,

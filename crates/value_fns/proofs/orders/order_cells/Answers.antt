@@ -15,8 +15,8 @@ returns c =
     let o = pos c.args.origin in
     let after : c.put_places.new.cells ≡ map (λ (x : Placed). counted_from o x.1) c.in_ok-index.index.items = c.put_places.ensures ∙ ap (map (λ (x : Placed). counted_from o x.1)) c.as_slice.ensures.value in
     elim c.if-down.branch [
-      | then-down w ↦ by_way o c.args.down true c.args.cells.now c.put_places.new.cells w.if-down.true (falling_order o c.args.cells.now c.if-down.cells c.put_places.new.cells c.in_ok-index.index.items (w.cells-is ∙ w.negate.ensures) c.in_ok-index.ensures after)
+      | then-down w ↦ by_way o c.args.down true c.args.cells.now c.put_places.new.cells w.if-down.true (falling_order o c.args.cells.now c.if-down.cells c.put_places.new.cells c.in_ok-index.index.items (w.cells-is ∙ w.negate.ensures) c.in_ok-index.ensures.index after)
       | else-down w ↦
           by_way o c.args.down false c.args.cells.now c.put_places.new.cells w.if-down.false
-          (rising_order o c.args.cells.now c.put_places.new.cells c.in_ok-index.index.items (subst (λ (xs : List ℤ). IsIndex xs c.in_ok-index.index.items) w.cells-is c.in_ok-index.ensures) after)
+          (rising_order o c.args.cells.now c.put_places.new.cells c.in_ok-index.index.items (subst (λ (xs : List ℤ). IsIndex xs c.in_ok-index.index.items) w.cells-is c.in_ok-index.ensures.index) after)
     ]
