@@ -76,8 +76,8 @@ fn fill(count: u64, number: u64, into: &mut Vec<Cell>)
 }
 
 // Puts in the place of each wanted cell its first place among the cells, counted from the origin, or the origin and how
-// many these are where it is not among them. Many are found by an index of the cells, and many
-// among very many by an index of both.
+// many these are where it is not among them. Many are found by an index of the cells, and many among very many by an
+// index of both.
 fn find_cells(
     alloc: Global,
     cells: &[Cell],
