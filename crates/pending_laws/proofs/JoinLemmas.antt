@@ -65,7 +65,7 @@ meaning-or place shape None = refl
 meaning-or place shape (Some es) = refl
 
 -- the only error of values is that one is undefined
-or_domain-error : (shape : List ℕ) (values : Option (List Elem)) (e : ErrorKind) → or_domain values (numbers shape) ≡ Err e → e ≡ error.Domain
+pub or_domain-error : (shape : List ℕ) (values : Option (List Elem)) (e : ErrorKind) → or_domain values (numbers shape) ≡ Err e → e ≡ error.Domain
 or_domain-error shape None e h = cc
 or_domain-error shape (Some es) e h = absurd cc
 
