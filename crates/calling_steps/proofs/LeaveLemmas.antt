@@ -4,7 +4,6 @@ use Rattle.std.specs.Prelude.{IsSome, ◌-◌, ◌≤◌, slice_get}
 use Rattle.std.proofs.Common.{length-append}
 use Rattle.std.proofs.lemmas.List.{length-map}
 use Rattle.drag_along.specs.Segments.{SegmentView}
-use Rattle.calling_steps.proofs.OutputLemmas.{last_there}
 use Rattle.std.specs.Option.{option_to_list}
 use Rattle.std.proofs.lemmas.List.{append-nil}
 use Rattle.apl_base.specs.Array.{Array}
@@ -28,6 +27,7 @@ use Rattle.machine_state.proofs.KeepsLemmas.{keeps}
 use Rattle.machine_state.proofs.NameLemmas.{found_value}
 use Rattle.calling_steps.specs.Calls.{EndsAll, Leaves}
 use Rattle.calling_steps.specs.Ready.{PutsResult, UnwindsOne}
+use Rattle.value_stack.proofs.NewestLemmas.{last_there}
 
 -- ---- the result
 

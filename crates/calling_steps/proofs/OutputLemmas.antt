@@ -1,32 +1,18 @@
 -- Outputs and branches after the newest entry was computed.
-use Rattle.std.proofs.Common.{◌≡◌, ℕ, suc, ◌<◌, List, [], ◌∷◌, ◌++◌, length, map, Option, Some, refl, sym, ap, ◌∙◌, arith}
+use Rattle.std.proofs.Common.{◌≡◌, ℕ, ◌<◌, List, [], ◌∷◌, ◌++◌, length, map, Option, Some, refl, sym, ap, ◌∙◌}
 use Rattle.std.specs.Prelude.{◌-◌, slice_get}
 use Rattle.apl_base.specs.Array.{Array}
 use Rattle.apl_base.specs.declared.faults.Place.{Place}
 use Rattle.drag_along.specs.Segments.{SegmentView}
 use Rattle.drag_along.specs.Meaning.{Meaning, Means, entry}
 use Rattle.machine_state.specs.declared.machines.Machine.{Machine}
-use Rattle.machine_state.specs.Steps.{pending, Keeps}
+use Rattle.machine_state.specs.Steps.{pending}
 use Rattle.calling_steps.specs.declared.flows.Flow.{Flow}
 use Rattle.calling_steps.specs.Branches.{Branches, LeadsTo}
 use Rattle.calling_steps.specs.Outputs.{on_top, Prints, Shows}
-
-pub keeps_then : (a b c : Machine) → Keeps a b → Keeps b c → Keeps a c
-keeps_then a b c j k = record {
-  lawful = λ hand l. k.lawful hand (j.lawful hand l);
-  variables = λ hand l. k.variables hand (j.lawful hand l) ∙ j.variables hand l;
-  limit = k.limit ∙ j.limit;
-}
+use Rattle.value_stack.proofs.NewestLemmas.{last_there}
 
 -- ---- the newest entry that goes
-
-pub last_there : (stack : List SegmentView) → 0 < length stack → (s : SegmentView) × (slice_get stack (length stack - 1) ≡ Some s)
-last_there [] some = absurd (omega (arith, some))
-last_there (a ∷ []) some = (a, refl)
-last_there (a ∷ b ∷ stack) some =
-    let at : length (a ∷ b ∷ stack) - 1 ≡ suc (length (b ∷ stack) - 1) = omega arith in
-    let rest = last_there (b ∷ stack) (omega arith) in
-    (rest.0, ap (λ (k : ℕ). slice_get (a ∷ b ∷ stack) k) at ∙ rest.1)
 
 same_front : (xs ys : List Meaning) (x y : Meaning) → xs ++ x ∷ [] ≡ ys ++ y ∷ [] → xs ≡ ys
 same_front [] [] x y e = refl

@@ -9,17 +9,14 @@ use Rattle.array_store.specs.Follows.{LeafCounts, Follows, Holds, both, none}
 use Rattle.array_store.proofs.FollowsLemmas.{follows_after}
 use Rattle.drag_along.specs.declared.leaves.Leaf.{Leaf}
 use Rattle.drag_along.specs.Nodes.{named_by_leaf}
-use Rattle.drag_along.specs.Segments.{SegmentView}
-use Rattle.drag_along.specs.Meaning.{Meaning, Means, Faults, leaf_array}
-use Rattle.drag_along.specs.Views.{StandsForArray}
+use Rattle.drag_along.specs.Meaning.{Meaning, Means, Faults}
 use Rattle.drag_along.proofs.KeptLemmas.{follows_keeps}
 use Rattle.value_stack.specs.Stacks.{named_on}
 use Rattle.value_stack.proofs.EntriesLemmas.{stack_kept}
 use Rattle.apl_model.specs.Environment.{Environment, set_name}
 use Rattle.apl_model.specs.Frames.{line_number}
-use Rattle.leaf_names.specs.Variables.{array_of, variables_of}
+use Rattle.leaf_names.specs.Variables.{array_of}
 use Rattle.name_table.specs.Laws.{with_argument}
-use Rattle.alias_force.specs.Desk.{IsLawfulDesk}
 use Rattle.alias_force.proofs.DeskLemmas.{desk_follows}
 use Rattle.pending_steps.specs.declared.halts.Halt.{Halt}
 use Rattle.pending_steps.specs.declared.halts.Halt.TheVariants as halt
@@ -29,10 +26,11 @@ use Rattle.pending_steps.specs.Steps.{IsNotComputed}
 use Rattle.machine_state.specs.declared.machines.Machine.{Machine}
 use Rattle.machine_state.specs.StandsFor.{IsLawfulMachine, variables}
 use Rattle.machine_state.specs.Steps.{pending, GivesLeaf, IsLawfulBeside, Keeps}
-use Rattle.machine_state.proofs.KeepsLemmas.{with_none}
-use Rattle.machine_state.proofs.GivesLemmas.{taken_in_hand}
+use Rattle.machine_state.proofs.KeepsLemmas.{without_none}
+use Rattle.machine_state.proofs.GivesLemmas.{taken_in_hand, taken_variables}
 use Rattle.calling_steps.specs.Ready.{Changes, GivesTo, Passes, TakesInHand}
 use Rattle.calling_steps.proofs.ReadyLemmas.{parted}
+use Rattle.leaf_names.proofs.StandsLemmas.{array_is}
 
 -- ---- arrays don't fault
 
@@ -52,14 +50,6 @@ arrays_stop limit there arrays halt.NoMemory are n = tt
 
 -- ---- into hand
 
-stands_array : (store : StoreView) (leaf : Leaf) (a : Array) → StandsForArray store leaf a → array_of store leaf ≡ a
-stands_array store leaf a s = ap (λ (ns : List ℕ). leaf_array store ns leaf) s.shape.same ∙ s.array
-
-taken_variables : (m0 m1 : Machine) (leaf : Leaf) → m1.names ≡ m0.names → m1.origin ≡ m0.origin → TakesLeaf m0.store m1.store m0.stack m1.stack leaf → (hand : LeafCounts) → IsLawfulMachine m0 hand → variables m1 ≡ variables m0
-taken_variables m0 m1 leaf names origin take hand l =
-    let d = desk_follows m0.store m1.store m0.names m0.stack m1.stack none (named_by_leaf leaf) hand (with_none m0.store m0.names m0.stack hand l.desk) take.moves.follows take.moves.lawful in
-    ap (λ (n : Environment Leaf). variables_of m1.store m1.origin n) names ∙ ap (λ (o : ℤ). variables_of m1.store o m0.names) origin ∙ d.1 m0.origin
-
 pub taken : (m0 m1 m2 : Machine) (leaf : Leaf) (arrays : List Array) → pending m0 ≡ map (λ a. Means a) arrays → Keeps m0 m1 → pending m1 ≡ pending m0 → m2.names ≡ m1.names → m2.origin ≡ m1.origin → TakesLeaf m1.store m2.store m1.stack m2.stack leaf → TakesInHand m0 m2 leaf
 taken m0 m1 m2 leaf arrays are k same names origin take =
     let parts = parted (Means take.array) (pending m2) arrays (sym take.means ∙ same ∙ are) in
@@ -78,9 +68,6 @@ taken m0 m1 m2 leaf arrays are k same names origin take =
     }
 
 -- ---- out of hand
-
-without_none : (store : StoreView) (names : Environment Leaf) (stack : List SegmentView) (hand : LeafCounts) → IsLawfulDesk store names stack (both none hand) → IsLawfulDesk store names stack hand
-without_none store names stack hand d = record { lawful = d.lawful; filling = d.filling; entries = d.entries; held = λ key. omega (arith, d.held key) }
 
 pub gives_to : (old new : Machine) (name : List ℕ) (leaf : Leaf) → GivesLeaf old new name leaf → GivesTo old new (Some name) leaf
 gives_to old new name leaf g = record { lawful = g.lawful; variables = g.variables; pending = g.pending; limit = g.limit }
@@ -111,7 +98,7 @@ passes_one m0 m1 m2 name leaf t g some = record {
   lawful = λ hand l. g.lawful hand (t.lawful hand l);
   variables = λ hand l.
       g.variables hand (t.lawful hand l)
-      ∙ ap (λ (a : Array). with_argument name (Some a) (variables m1)) (stands_array m1.store leaf t.array t.stands)
+      ∙ ap (λ (a : Array). with_argument name (Some a) (variables m1)) (array_is m1.store leaf t.array t.stands)
       ∙ ap (λ (e : Environment Array). with_argument name (Some t.array) e) (t.variables hand l);
   limit = g.limit ∙ t.limit;
 }
@@ -126,7 +113,7 @@ number_in_hand m leaf hand names l = record {
 
 pub label_set : (old new : Machine) (name : List ℕ) (leaf : Leaf) (number : ℕ) → IsLiteralLeaf kind.Num (pos number) leaf → GivesLeaf old new name leaf → Changes old new (with_argument (Some name) (Some (line_number number)))
 label_set old new name leaf number is g =
-    let array : array_of old.store leaf ≡ line_number number = stands_array old.store leaf (line_number number) (is.stands old.store) in
+    let array : array_of old.store leaf ≡ line_number number = array_is old.store leaf (line_number number) (is.stands old.store) in
     record {
       lawful = λ hand l. g.lawful hand (number_in_hand old leaf hand is.names l);
       variables = λ hand l. g.variables hand (number_in_hand old leaf hand is.names l) ∙ ap (λ (a : Array). set_name (variables old) name a) array;

@@ -6,7 +6,7 @@ use Rattle.apl_base.specs.Array.{Array}
 use Rattle.array_store.specs.Stores.{StoreView}
 use Rattle.array_store.specs.Counting.{OnlyCounted}
 use Rattle.array_store.specs.Follows.{Follows, Holds, both, none}
-use Rattle.array_store.proofs.FollowsLemmas.{follows_counts, follows_counted, follows_after}
+use Rattle.array_store.proofs.FollowsLemmas.{follows_counted, follows_after}
 use Rattle.drag_along.specs.declared.leaves.Leaf.{Leaf}
 use Rattle.drag_along.specs.declared.nodes.Node.{Node}
 use Rattle.drag_along.specs.declared.nodes.Node.TheVariants.{Operand, One, Two}
@@ -27,6 +27,7 @@ use Rattle.machine_state.specs.Steps.{pending, IsLawfulBeside, Keeps}
 use Rattle.machine_state.proofs.KeepsLemmas.{keeps}
 use Rattle.calling_steps.specs.Outputs.{on_top}
 use Rattle.calling_steps.specs.Ready.{IsNewest}
+use Rattle.array_store.proofs.CountingLemmas.{follows-counted}
 
 -- ---- an expression without functions is a leaf
 
@@ -100,12 +101,9 @@ newest_leaf_lawful store stack leaf n lawful =
 
 -- ---- steps that only count
 
-counted_follows : (old new : StoreView) → OnlyCounted old new → Follows old new none none
-counted_follows old new only = subst (λ (s : StoreView). Follows old s none none) (sym only) (follows_counts old new.counts)
-
 pub counted_moves : (old new : StoreView) (stack : List SegmentView) → OnlyCounted old new → IsLawfulStack old stack → Holds old (named_on stack) → Moves old new stack stack none none × (entries new stack ≡ entries old stack)
 counted_moves old new stack only lawful holds =
-    let follows : Follows old new none none = counted_follows old new only in
+    let follows : Follows old new none none = follows-counted old new only in
     let kept = stack_kept old new stack (follows_keeps old new none none (named_on stack) (named_on stack) follows (λ key. omega (arith, holds key)) (λ key. omega arith)) lawful in (
       record {
         lawful = kept.0;

@@ -1,7 +1,6 @@
 -- How a subscript is answered.
-use Rattle.std.proofs.Common.{◌≡◌, ◌≢◌, ◌==◌, ℕ, suc, ◌+◌, ◌<◌, ◌≤◌, Bool, true, false, not, ◌&&◌, ℤ, pos, ◌+ℤ◌, List, [], ◌∷◌, ◌++◌, length, map, take, get_or, Option, Some, None, Ok, Err, refl, sym, ap, subst, ◌∙◌, arith, append_assoc, add-one}
-use Rattle.std.specs.Prelude.{slice_index_or}
-use Rattle.std.specs.List.{AllByRecursion, list_any}
+use Rattle.std.proofs.Common.{◌≡◌, ◌≢◌, ◌==◌, ℕ, suc, ◌+◌, ◌<◌, ◌≤◌, Bool, true, false, not, ◌&&◌, ℤ, List, [], ◌∷◌, ◌++◌, length, map, take, get_or, Option, Some, None, Ok, Err, refl, sym, ap, subst, ◌∙◌, arith, append_assoc, add-one}
+use Rattle.std.specs.List.{list_any}
 use Rattle.std.proofs.lemmas.Bool.{eqb-true}
 use Rattle.std.proofs.lemmas.List.{length-append, length-map, length-take-le, map-append}
 use Rattle.std.proofs.Math.Seq.{take-suc, take-length}
@@ -10,28 +9,22 @@ use Rattle.apl_base.specs.declared.faults.ErrorKind.TheVariants as error
 use Rattle.apl_base.specs.Array.{Array, IsShape}
 use Rattle.apl_base.specs.Elements.{gathered}
 use Rattle.apl_base.specs.Selection.{Position, whole, one, run, subscript_shape}
-use Rattle.apl_base.proofs.Booleans.{by_false, eqb-same, each-list_all}
+use Rattle.apl_base.proofs.Booleans.{by_false, eqb-same}
 use Rattle.beating.specs.declared.selections.Item.{Item}
 use Rattle.beating.specs.declared.selections.Item.TheVariants as item
-use Rattle.beating.specs.Positions.{NamesPlace}
-use Rattle.beating.specs.Runs.{run_value}
 use Rattle.beating.specs.Selecting.{position_of, ItemsFit}
-use Rattle.apl_model.specs.Whole.{Answer, rank, is_shape, error_if, error_or, within_limit}
-use Rattle.apl_model.specs.Subscript.{is_text_position, is_place, in_axis, in_axes, axes_of, positions_shape, positions_index, subscript}
+use Rattle.apl_model.specs.Whole.{rank, is_shape, error_if, within_limit}
+use Rattle.apl_model.specs.Subscript.{is_text_position, in_axes, positions_shape, positions_index, subscript}
 use Rattle.apl_model_laws.proofs.Arrays.{shapes_are_tested}
 use Rattle.pending_laws.specs.Subscripts.{IsItemAt, AreItems}
-use Rattle.pending_laws.proofs.AnswerLemmas.{passes_if, le-test, lt-test}
 use Rattle.indexing_steps.specs.declared.choices.Choice.{Choice}
 use Rattle.indexing_steps.specs.declared.choices.Choice.TheVariants.{Select, Refuse}
 use Rattle.beating.specs.declared.selections.Selection.TheVariants as select
 use Rattle.indexing_steps.specs.Choices.{IsChoice, IsFitted}
+use Rattle.apl_model_laws.proofs.Refusals.{fails_if, fails_or, passes_if}
+use Rattle.pending_laws.proofs.SubscriptLemmas.{item-axis, items-shape, shape-step}
 
 -- ---- the lengths of a selection
-
-shape_step : (q : Position) (qs : List Position) (n : ℕ) (ns : List ℕ) → subscript_shape (q ∷ qs) (n ∷ ns) ≡ subscript_shape (q ∷ []) (n ∷ []) ++ subscript_shape qs ns
-shape_step whole qs n ns = refl
-shape_step (one p) qs n ns = refl
-shape_step (run from step count) qs n ns = refl
 
 -- one more axis
 shape_push : (qs : List Position) (ns : List ℕ) (q : Position) (n : ℕ) → length qs ≡ length ns → subscript_shape (qs ++ q ∷ []) (ns ++ n ∷ []) ≡ subscript_shape qs ns ++ subscript_shape (q ∷ []) (n ∷ [])
@@ -39,10 +32,10 @@ shape_push [] [] q n h = refl
 shape_push [] (m ∷ ns) q n h = absurd (omega (arith, h))
 shape_push (p ∷ qs) [] q n h = absurd (omega (arith, h))
 shape_push (p ∷ qs) (m ∷ ns) q n h =
-    shape_step p (qs ++ q ∷ []) m (ns ++ n ∷ [])
+    shape-step p (qs ++ q ∷ []) m (ns ++ n ∷ [])
     ∙ ap (λ (ks : List ℕ). subscript_shape (p ∷ []) (m ∷ []) ++ ks) (shape_push qs ns q n (omega (arith, h)))
     ∙ sym (append_assoc (subscript_shape (p ∷ []) (m ∷ [])) (subscript_shape qs ns) (subscript_shape (q ∷ []) (n ∷ [])))
-    ∙ ap (λ (ks : List ℕ). ks ++ subscript_shape (q ∷ []) (n ∷ [])) (sym (shape_step p qs m ns))
+    ∙ ap (λ (ks : List ℕ). ks ++ subscript_shape (q ∷ []) (n ∷ [])) (sym (shape-step p qs m ns))
 
 -- so it goes with the first axes
 pub lengths_more : (items : List Item) (ns : List ℕ) (k n : ℕ) (i : Item) → take (k + 1) items ≡ take k items ++ i ∷ [] → take (k + 1) ns ≡ take k ns ++ n ∷ [] → length (take k items) ≡ length (take k ns) →
@@ -87,22 +80,6 @@ all_kept items ns k lengths h long e =
     ∙ ap (λ (is : List Item). subscript_shape (map position_of is) (take k ns)) (ap (λ (m : ℕ). take m items) e ∙ take-length items)
     ∙ ap (λ (ms : List ℕ). subscript_shape (map position_of items) ms) (ap (λ (m : ℕ). take m ns) (e ∙ long) ∙ take-length ns)
 
--- items have the axes of their positions
-item_shape : (o : ℤ) (n : ℕ) (p : Option Array) (kept : Item) → IsItemAt o n p kept → subscript_shape (position_of kept ∷ []) (n ∷ []) ≡ axes_of n p
-item_shape o n None kept h = ap (λ (i : Item). subscript_shape (position_of i ∷ []) (n ∷ [])) h
-item_shape o n (Some p) kept h = h.places.shape ∙ sym h.progression.shape
-
-pub items_shape : (o : ℤ) (ns : List ℕ) (ps : List (Option Array)) (items : List Item) → AreItems o ns ps items → subscript_shape (map position_of items) ns ≡ positions_shape ns ps
-items_shape o [] [] [] h = refl
-items_shape o (n ∷ ns) (p ∷ ps) (i ∷ items) h =
-    shape_step (position_of i) (map position_of items) n ns
-    ∙ ap (λ (ks : List ℕ). ks ++ subscript_shape (map position_of items) ns) (item_shape o n p i h.0)
-    ∙ ap (λ (ks : List ℕ). axes_of n p ++ ks) (items_shape o ns ps items h.1)
-items_shape o [] [] (i ∷ items) h = absurd h
-items_shape o [] (p ∷ ps) items h = absurd h
-items_shape o (n ∷ ns) [] items h = absurd h
-items_shape o (n ∷ ns) (p ∷ ps) [] h = absurd h
-
 -- and their places are on their axes
 pub items_fit : (o : ℤ) (ns : List ℕ) (ps : List (Option Array)) (items : List Item) → AreItems o ns ps items → ItemsFit items ns
 items_fit o [] [] [] h = tt
@@ -129,37 +106,16 @@ items_long o [] (p ∷ ps) items h = absurd h
 items_long o (n ∷ ns) [] items h = absurd h
 items_long o (n ∷ ns) (p ∷ ps) [] h = absurd h
 
--- each position lies in its axis
-named : (o : ℤ) (n : ℕ) (v : ℤ) → NamesPlace o n v → is_place o n v ≡ true
-named o n v h = rw (le-test o v h.0, lt-test v (o +ℤ pos n) h.1) refl
-
-by_places : (P : ℤ → Type 0) (xs : List ℤ) → ((j : ℕ) → j < length xs → P (slice_index_or xs j (pos 0))) → AllByRecursion P xs
-by_places P [] h = tt
-by_places P (x ∷ xs) h = (h 0 (omega arith), by_places P xs (λ j below. h (suc j) (omega (arith, below))))
-
-item_axis : (o : ℤ) (n : ℕ) (p : Option Array) (kept : Item) → IsItemAt o n p kept → in_axis o n p ≡ true
-item_axis o n None kept h = refl
-item_axis o n (Some p) kept h =
-    each-list_all (is_place o n) p.cells (by_places (λ v. is_place o n v ≡ true) p.cells (λ j below.
-    ap (is_place o n) (h.progression.run.each j below)
-    ∙ named o n (run_value h.run j) (h.on_axis j (omega (arith, below, h.progression.run.count)))))
-
 pub items_axes : (o : ℤ) (ns : List ℕ) (ps : List (Option Array)) (items : List Item) → AreItems o ns ps items → in_axes o ns ps ≡ true
 items_axes o [] [] [] h = refl
 items_axes o (n ∷ ns) (p ∷ ps) (i ∷ items) h =
-    ap (λ (t : Bool). t && in_axes o ns ps) (item_axis o n p i h.0) ∙ items_axes o ns ps items h.1
+    ap (λ (t : Bool). t && in_axes o ns ps) (item-axis o n p i h.0) ∙ items_axes o ns ps items h.1
 items_axes o [] [] (i ∷ items) h = absurd h
 items_axes o [] (p ∷ ps) items h = absurd h
 items_axes o (n ∷ ns) [] items h = absurd h
 items_axes o (n ∷ ns) (p ∷ ps) [] h = absurd h
 
 -- ---- errors
-
-fails_if : (e : ErrorKind) (t : Bool) (next : Answer) → t ≡ true → error_if e t next ≡ Err e
-fails_if e t next h = ap (λ (b : Bool). error_if e b next) h
-
-fails_or : (e : ErrorKind) (t : Bool) (make : Unit {0} → Answer) → t ≡ true → error_or e t make ≡ Err e
-fails_or e t make h = ap (λ (b : Bool). error_or e b make) h
 
 module _ (o : ℤ) (a : Array) (ps : List (Option Array)) where
   pub rank_fails : length ps ≢ length a.shape → subscript o a ps ≡ Err error.Rank
@@ -195,5 +151,5 @@ fitted_choice o ns ps items (Refuse kind) text long h f =
     subst (λ (k : ErrorKind). subscript o a ps ≡ Err k) (sym f.0)
     (limit_fails o a ps (long ∙ ap (λ (ms : List ℕ). length ms) (sym same)) text
     (ap (λ (ms : List ℕ). in_axes o ms ps) same ∙ items_axes o ns ps items h)
-    (λ shape. f.1 (subst IsShape (ap (λ (ms : List ℕ). positions_shape ms ps) same ∙ sym (items_shape o ns ps items h)) shape)))
+    (λ shape. f.1 (subst IsShape (ap (λ (ms : List ℕ). positions_shape ms ps) same ∙ sym (items-shape o ns ps items h)) shape)))
 fitted_choice o ns ps items other text long h f = absurd f

@@ -1,6 +1,6 @@
 -- Entries that are let go, and the newest entry.
-use Rattle.std.proofs.Common.{◌≡◌, ℕ, ◌+◌, ◌-◌, ◌<◌, zero, suc, Bool, true, false, None, List, [], ◌∷◌, ◌++◌, length, Some, refl, sym, ap, subst, ◌∙◌, arith, append_assoc}
-use Rattle.std.proofs.lemmas.List.{append-nil, map-append, length-append, length-map}
+use Rattle.std.proofs.Common.{◌≡◌, ℕ, ◌+◌, ◌-◌, ◌<◌, zero, suc, false, List, [], ◌∷◌, ◌++◌, length, Some, refl, sym, ap, subst, ◌∙◌, arith, append_assoc}
+use Rattle.std.proofs.lemmas.List.{append-nil, length-append, length-map}
 use Rattle.std.specs.Prelude.{slice_get}
 use Rattle.std.specs.List.{AllByRecursion}
 use Rattle.array_store.specs.Counting.{OnlyCounted}
@@ -9,19 +9,20 @@ use Rattle.array_store.specs.Stores.{StoreView}
 use Rattle.array_store.specs.Follows.{Holds, both, none}
 use Rattle.array_store.proofs.FollowsLemmas.{follows_same, follows_then, follows_beside, follows_counted, holds_then}
 use Rattle.drag_along.specs.Segments.{SegmentView, IsSegment, named_by}
-use Rattle.drag_along.specs.Meaning.{Meaning, Means, Faults, entry}
-use Rattle.drag_along.specs.Lawful.{IsLawful, MeansWithin}
+use Rattle.drag_along.specs.Meaning.{Meaning, entry}
+use Rattle.drag_along.specs.Lawful.{IsLawful}
 use Rattle.drag_along.proofs.KeptLemmas.{follows_keeps, segment_kept}
-use Rattle.value_stack.specs.Stacks.{named_on, entries, MayFail, IsLeastOrNone, IsLawfulStack}
+use Rattle.value_stack.specs.Stacks.{named_on, entries, IsLawfulStack}
 use Rattle.value_stack.proofs.EntriesLemmas.{named_on_both}
 use Rattle.beating.specs.declared.selections.Selection.{Selection}
 use Rattle.beating.specs.Selecting.{selected_meaning}
 use Rattle.pending_steps.specs.Steps.{Moves}
 use Rattle.pending_steps.specs.Shapes.{IsArrayEntry}
-use Rattle.pending_steps.proofs.ArrayLemmas.{array_entry}
+use Rattle.pending_steps.proofs.ArrayLemmas.{safe_entry}
 use Rattle.pending_steps.proofs.LiteralLemmas.{beside_made}
 use Rattle.pending_steps.proofs.StepLemmas.{newest_lawful, older_lawful, pushed_lawful}
 use Rattle.indexing_steps.specs.Falls.{Drops, DropsBelow, SelectsNewest}
+use Rattle.value_stack.proofs.NewestLemmas.{entries_end}
 
 -- ---- moves, one after the other
 
@@ -40,15 +41,6 @@ moves_hold a b x y m h key =
 
 -- ---- the newest entry
 
-pub get-end : (older : List SegmentView) (s : SegmentView) → slice_get (older ++ s ∷ []) (length older) ≡ Some s
-get-end [] s = refl
-get-end (b ∷ older) s = get-end older s
-
-pub newest_at : (stack older : List SegmentView) (s : SegmentView) → stack ≡ older ++ s ∷ [] → slice_get stack (length stack - 1) ≡ Some s
-newest_at stack older s is =
-    let long : length stack - 1 ≡ length older = omega (arith, ap (λ (xs : List SegmentView). length xs) is, length-append older (s ∷ [])) in
-    ap (λ (k : ℕ). slice_get stack k) long ∙ ap (λ (xs : List SegmentView). slice_get xs (length older)) is ∙ get-end older s
-
 pub record HasNewest (stack : List SegmentView) : Type 0 where
   pub older : List SegmentView
   pub newest : SegmentView
@@ -60,9 +52,6 @@ has_newest (s ∷ []) h = record { older = []; newest = s; whole = refl }
 has_newest (s ∷ t ∷ stack) h =
     let rest : HasNewest (t ∷ stack) = has_newest (t ∷ stack) (omega arith) in
     record { older = s ∷ rest.older; newest = rest.newest; whole = ap (λ (xs : List SegmentView). s ∷ xs) rest.whole }
-
-pub entries_end : (store : StoreView) (stack older : List SegmentView) (s : SegmentView) → stack ≡ older ++ s ∷ [] → entries store stack ≡ entries store older ++ entry store s ∷ []
-entries_end store stack older s is = ap (entries store) is ∙ map-append (entry store) older (s ∷ [])
 
 pub named_end : (stack older : List SegmentView) (s : SegmentView) (key : ℕ) → stack ≡ older ++ s ∷ [] → named_on stack key ≡ named_on older key + named_by s key
 named_end stack older s key is = ap (λ (xs : List SegmentView). named_on xs key) is ∙ named_on_both older (s ∷ []) key ∙ omega arith
@@ -118,17 +107,9 @@ mid_long before mid s was = ap (λ (xs : List SegmentView). length xs) was ∙ l
 
 -- ---- a selection of the newest entry
 
--- an entry that can't fail means an array
-pub safe_means : (store : StoreView) (s : SegmentView) → IsSegment s → IsLawful store s → s.may_fail ≡ false → IsArrayEntry store s
-safe_means store s h l safe = by (entry store s) refl (l.sound safe)
-  where
-    by : (m : Meaning) → entry store s ≡ m → MeansWithin s.range m → IsArrayEntry store s
-    by (Means a) e w = array_entry store s a h e
-    by (Faults p) e w = elim w [ ]
-
 pub newest_selected : (store : StoreView) (before mid after : List SegmentView) (s t : SegmentView) (by : Selection) → IsSegment s → before ≡ mid ++ s ∷ [] → after ≡ mid ++ t ∷ [] → s.may_fail ≡ false → IsLawfulStack store before → IsLawful store t → entry store t ≡ selected_meaning by (entry store s) → ((key : ℕ) → named_by t key ≡ named_by s key) → SelectsNewest store before after by
 newest_selected store before mid after s t by h was is safe lawful l e named =
-    let one : IsArrayEntry store s = safe_means store s h (newest_lawful store before mid s was lawful) safe in
+    let one : IsArrayEntry store s = safe_entry store s h (newest_lawful store before mid s was lawful) safe in
     record {
       older = entries store mid;
       array = one.array;
@@ -142,14 +123,6 @@ newest_selected store before mid after s t by h was is safe lawful l e named =
             (follows_same store (both (named_on before) none));
       };
     }
-
--- where no entry may fail, none at a position does
-pub safe_at : (stack : List SegmentView) (k : ℕ) (s : SegmentView) → IsLeastOrNone MayFail stack 0 None → slice_get stack k ≡ Some s → s.may_fail ≡ false
-safe_at stack k s safe g = by s.may_fail refl
-  where
-    by : (t : Bool) → s.may_fail ≡ t → s.may_fail ≡ false
-    by true e = absurd (safe k (omega arith) (s, g, e))
-    by false e = e
 
 -- each entry of a stack is a segment
 pub segment_at : (stack : List SegmentView) (k : ℕ) (s : SegmentView) → AllByRecursion IsSegment stack → slice_get stack k ≡ Some s → IsSegment s

@@ -29,12 +29,13 @@ use Rattle.pending_steps.specs.Leaves.{PutsLeaf}
 use Rattle.leaf_steps.specs.Origins.{StepsFrom, IsHaltedFrom}
 use Rattle.leaf_steps.specs.Making.{StandsForAnswer, IsMade, halt_at}
 use Rattle.leaf_steps.proofs.MakingLemmas.{made_by}
-use Rattle.leaf_steps.proofs.TakingLemmas.{array_is}
 use Rattle.indexing_steps.specs.Falls.{DropsBelow, PutsOver}
 use Rattle.indexing_steps.specs.Operands.{positions_in, IsLeafEntry, ArePositions, arrays_of, AreOperands}
-use Rattle.indexing_steps.proofs.FallLemmas.{HasNewest, has_newest, newest_at}
+use Rattle.indexing_steps.proofs.FallLemmas.{HasNewest, has_newest}
 use Rattle.indexing_steps.proofs.OperandLemmas.{leaf_lawful, operands_are}
 use Rattle.indexing_steps.proofs.AnswerLemmas.{first_part, second_part, answer_steps, answer_refuses}
+use Rattle.value_stack.proofs.NewestLemmas.{newest_at}
+use Rattle.leaf_names.proofs.StandsLemmas.{array_is}
 
 abbrev mean : Array → Meaning
 mean a = Means a

@@ -1,5 +1,5 @@
 -- Positions that are scalars or numbers in progression, and what they keep of their axes.
-use Rattle.std.proofs.Common.{◌≡◌, ◌≢◌, true≢false, ◌==◌, ℕ, zero, suc, ◌+◌, ◌<◌, Bool, true, false, not, ◌&&◌, ◌||◌, ℤ, pos, ◌+ℤ◌, List, [], ◌∷◌, ◌++◌, length, take, get_or, Option, Some, None, refl, sym, ap, subst, ◌∙◌, arith, add-one, int_le, int_lt}
+use Rattle.std.proofs.Common.{◌≡◌, ◌≢◌, true≢false, ◌==◌, ℕ, zero, suc, ◌+◌, ◌<◌, Bool, true, false, not, ◌&&◌, ◌||◌, ℤ, pos, List, [], ◌∷◌, ◌++◌, length, take, get_or, Option, Some, None, refl, sym, ap, subst, ◌∙◌, arith, add-one}
 use Rattle.std.specs.Prelude.{All, IfSome}
 use Rattle.std.specs.List.{list_any, list_all}
 use Rattle.std.specs.Option.{option_map}
@@ -11,7 +11,7 @@ use Rattle.apl_base.specs.declared.cells.Kind.{Kind}
 use Rattle.apl_base.specs.declared.cells.Kind.TheVariants.{Num, Char}
 use Rattle.apl_base.specs.Array.{Array, IsArray, size_of}
 use Rattle.apl_base.specs.Number.{IsNumber, IsCell}
-use Rattle.apl_base.proofs.Booleans.{both_parts, by_false, neither_part, list_all-each}
+use Rattle.apl_base.proofs.Booleans.{by_false, neither_part, list_all-each}
 use Rattle.apl_base.proofs.Elements.{tabulated-count}
 use Rattle.apl_base.proofs.Lists.{all_place}
 use Rattle.array_desc.specs.Desc.{IsDesc}
@@ -25,7 +25,7 @@ use Rattle.e_machine.proofs.CountedLemmas.{lawful_leaf-counted, leaf_array-count
 use Rattle.beating.specs.declared.runs.Run.{Run}
 use Rattle.beating.specs.declared.selections.Item.{Item}
 use Rattle.beating.specs.Runs.{IsRunOf, run_value}
-use Rattle.beating.specs.Positions.{ArePositions, NamesPlace, OnAxis, LeavesAxis, IsItemOf}
+use Rattle.beating.specs.Positions.{ArePositions, OnAxis, LeavesAxis, IsItemOf}
 use Rattle.apl_model.specs.Whole.{is_char, is_text, first}
 use Rattle.apl_model.specs.Subscript.{is_text_position, is_place, in_axis, in_axes}
 use Rattle.apl_model_laws.proofs.Arrays.{first-lawful}
@@ -33,9 +33,10 @@ use Rattle.made_leaf.proofs.MadeLemmas.{leaf_is_array}
 use Rattle.leaf_names.specs.Variables.{array_of}
 use Rattle.pending_laws.specs.Joins.{IsComplete}
 use Rattle.pending_laws.specs.Subscripts.{lone_number, KeepsPositions, IsItemAt, AreItems}
-use Rattle.pending_laws.proofs.SubscriptLemmas.{scalars_are_in_progression, runs_are_in_progression}
+use Rattle.pending_laws.proofs.SubscriptLemmas.{place-named, runs_are_in_progression, scalars_are_in_progression}
 use Rattle.indexing_steps.specs.Choices.{IsProgression}
 use Rattle.indexing_steps.specs.Operands.{arrays_of}
+use Rattle.apl_base.proofs.ShapeLemmas.{no_axes}
 
 -- ---- leaves that are no characters
 
@@ -57,10 +58,6 @@ not_zero n h = by_false (n == 0) (n ≡ 0) (eqb-true n 0) (λ e. h e)
 one_number : (z : ℤ) (j : ℕ) → j < 1 → run_value (lone_number z) j ≡ z
 one_number z zero h = omega (arith, ints)
 one_number z (suc j) h = absurd (omega (arith, h))
-
-no_axes : (ns : List ℕ) → length ns ≡ 0 → size_of ns ≡ 1
-no_axes [] h = refl
-no_axes (n ∷ ns) h = absurd (omega (arith, h))
 
 -- the first cell of a scalar
 pub scalar_is : (store : StoreView) (leaf : Leaf) (z : ℤ) → IsStore store → IsDesc (leaf_desc leaf) → IsLawfulLeaf store leaf → is_text (array_of store leaf) ≡ false → length (leaf_shape leaf) ≡ 0 → z ≡ first (array_of store leaf) → IsProgression (array_of store leaf) (lone_number z) true
@@ -113,16 +110,13 @@ vector_is store leaf r kind one are lawful = record {
 pub kept_is : (o : ℤ) (n : ℕ) (p : Array) (r : Run) (is_scalar : Bool) (kept : Item) → IsProgression p r is_scalar → OnAxis o n r → IsItemOf o n r is_scalar kept → KeepsPositions o n p kept
 kept_is o n p r is_scalar kept h on is = record { run = r; is_scalar = is_scalar; progression = h.progression; on_axis = on; places = is }
 
-place_named : (o : ℤ) (n : ℕ) (v : ℤ) → is_place o n v ≡ true → NamesPlace o n v
-place_named o n v h = let s = both_parts (int_le o v) (int_lt v (o +ℤ pos n)) h in (omega (arith, ints, s.0), omega (arith, ints, s.1))
-
 pub off_axis : (o : ℤ) (n : ℕ) (p : Array) (r : Run) (is_scalar : Bool) → IsProgression p r is_scalar → LeavesAxis o n r → in_axis o n (Some p) ≡ false
 off_axis o n p r is_scalar h off =
     by_false (list_all (is_place o n) p.cells) ⊥ (λ all.
     let run : IsRunOf p.cells r = h.progression.run in
     let below : off.0 < length p.cells = omega (arith, off.1, run.count) in
     let here : is_place o n (get_or p.cells off.0 (pos 0)) ≡ true = all_place (λ v. is_place o n v ≡ true) p.cells off.0 (pos 0) (list_all-each (is_place o n) p.cells all) below in
-    off.2 (place_named o n (run_value r off.0) (ap (is_place o n) (sym (run.each off.0 below)) ∙ here))) (λ b. b)
+    off.2 (place-named o n (run_value r off.0) (ap (is_place o n) (sym (run.each off.0 below)) ∙ here))) (λ b. b)
 
 -- ---- one position after the other
 

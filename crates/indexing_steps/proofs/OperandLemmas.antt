@@ -10,9 +10,7 @@ use Rattle.std.specs.List.{AllByRecursion, AllZip}
 use Rattle.apl_base.specs.Array.{Array}
 use Rattle.array_store.specs.Stores.{StoreView}
 use Rattle.drag_along.specs.declared.leaves.Leaf.{Leaf}
-use Rattle.drag_along.specs.declared.nodes.Node.{Node}
-use Rattle.drag_along.specs.declared.nodes.Node.TheVariants.{Operand, One, Two}
-use Rattle.drag_along.specs.Nodes.{functions_in, pending_after}
+use Rattle.drag_along.specs.Nodes.{functions_in}
 use Rattle.drag_along.specs.Segments.{SegmentView, IsSegment}
 use Rattle.drag_along.specs.Meaning.{Meaning, Means, entry}
 use Rattle.drag_along.specs.Lawful.{IsLawful, IsLawfulLeaf}
@@ -29,30 +27,13 @@ use Rattle.pending_steps.proofs.StepLemmas.{lawful_parts}
 use Rattle.indexing_steps.specs.Operands.{positions_in, spread, AreComputed, IsLeafEntry, ArePositions, arrays_of, AreOperands}
 use Rattle.indexing_steps.proofs.MaskLemmas.{spread-no, spread-yes, spread-map, spread-all}
 use Rattle.indexing_steps.proofs.FallLemmas.{HasNewest, has_newest}
+use Rattle.value_stack.proofs.NewestLemmas.{get-behind}
+use Rattle.drag_along.proofs.FirstLemmas.{leaf_alone}
 
 -- ---- an entry without functions is a leaf
 
--- operands alone are pending, each of them
-operands_pend : (nodes : List Node) (n : ℕ) → functions_in nodes ≡ 0 → pending_after nodes n ≡ Some (n + length nodes)
-operands_pend [] n f = let same : n ≡ n + 0 = omega arith in ap (λ (k : ℕ). Some k) same
-operands_pend (One g place ∷ nodes) n f = absurd (omega (arith, f))
-operands_pend (Two g place ∷ nodes) n f = absurd (omega (arith, f))
-operands_pend (Operand leaf ∷ nodes) n f =
-    let same : suc n + length nodes ≡ n + length (Operand leaf ∷ nodes) = omega arith in
-    operands_pend nodes (suc n) f ∙ ap (λ (k : ℕ). Some k) same
-
-one_value : (nodes : List Node) → functions_in nodes ≡ 0 → pending_after nodes 0 ≡ Some 1 → only_leaf nodes ≡ None → ⊥
-one_value [] f w h = cc
-one_value (One g place ∷ nodes) f w h = absurd (omega (arith, f))
-one_value (Two g place ∷ nodes) f w h = absurd (omega (arith, f))
-one_value (Operand leaf ∷ []) f w h = cc
-one_value (Operand leaf ∷ node ∷ nodes) f w h =
-    let many : Some (0 + length (Operand leaf ∷ node ∷ nodes)) ≡ Some 1 = sym (operands_pend (Operand leaf ∷ node ∷ nodes) 0 f) ∙ w in
-    let one : 0 + length (Operand leaf ∷ node ∷ nodes) ≡ 1 = cc in
-    omega (arith, one)
-
 pub is_leaf : (s : SegmentView) → IsSegment s → functions_in s.nodes ≡ 0 → only_leaf s.nodes ≡ None → ⊥
-is_leaf s h f none = one_value s.nodes f h.whole none
+is_leaf s h f none = leaf_alone s.nodes f h.whole none
 
 -- ---- the positions are read
 
@@ -67,10 +48,6 @@ all_long R [] [] h = refl
 all_long R [] (z ∷ ys) h = elim h [ ]
 all_long R (z ∷ xs) [] h = elim h [ ]
 all_long R (z ∷ xs) (w ∷ ys) h = ap suc (all_long R xs ys h.1)
-
-pub get_behind : (before : List SegmentView) (a : SegmentView) (after : List SegmentView) → slice_get (before ++ a ∷ after) (length before) ≡ Some a
-get_behind [] a after = refl
-get_behind (b ∷ before) a after = get_behind before a after
 
 -- the first k of the mask's positions are read, and the next one that is there is the entry below number `at`
 pub record AreRead (mask : List Bool) (k : ℕ) (stack : List SegmentView) (end at : ℕ) (leaves : List (Option Leaf)) : Type 0 where
@@ -133,7 +110,7 @@ there_read mask k stack end at leaves after leaf r below in_there low one is =
     let place : at - 1 ≡ length n.older = omega (arith, r.place, long) in
     let found : slice_get stack (at - 1) ≡ Some n.newest =
     ap (λ (i : ℕ). slice_get stack i) place ∙ ap (λ (xs : List SegmentView). slice_get xs (length n.older)) split
-    ∙ get_behind n.older n.newest (reverse r.segments ++ r.younger) in
+    ∙ get-behind n.older n.newest (reverse r.segments ++ r.younger) in
     record {
       there = r.there ++ leaf ∷ [];
       number = omega (arith, length-append r.there (leaf ∷ []), r.number, same);
@@ -258,7 +235,7 @@ operands_are store mask stack end leaves s a p long at e =
     let found : slice_get stack end ≡ Some one.0 =
     ap (λ (k : ℕ). slice_get stack k) (sym below)
     ∙ ap (λ (xs : List SegmentView). slice_get xs (length (p.older ++ reverse p.segments))) (p.whole ∙ ap (λ (ys : List SegmentView). (p.older ++ reverse p.segments) ++ ys) one.1)
-    ∙ get_behind (p.older ++ reverse p.segments) one.0 [] in
+    ∙ get-behind (p.older ++ reverse p.segments) one.0 [] in
     let same : one.0 ≡ s = cc in
     record {
       there = m.there;

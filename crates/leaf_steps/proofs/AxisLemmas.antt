@@ -10,7 +10,8 @@ use Rattle.apl_model.specs.declared.functions.Axis.TheVariants.{Numbered}
 use Rattle.apl_model.specs.Made as made
 use Rattle.apl_model.specs.Product as product
 use Rattle.apl_model.specs.Whole.{Answer, error_if}
-use Rattle.made_fns.proofs.Tests.{int_le-is, int_le-not, int_lt-is, int_lt-not, an_error}
+use Rattle.made_fns.proofs.Tests.{int_le-is, int_le-not, int_lt-is, int_lt-not}
+use Rattle.apl_model_laws.proofs.Refusals.{fails_if}
 
 -- one axis counts from 1 as another one from the origin
 abbrev pub IsSameAxis : ℤ → Axis → Axis → Type 0
@@ -45,9 +46,9 @@ number_counted j k o origin (inl h) r make few =
     ∙ ap (λ (t : Bool). error_if error.Rank (not (int_le o k && t)) (make (unsigned_abs (j -ℤ pos 1)))) (high_same j k o r h)
     ∙ ap (λ (z : ℤ). error_if error.Rank (not (int_le o k && int_lt k (o +ℤ pos r))) (make (unsigned_abs z))) (number_same j k o h)
 number_counted j k o origin (inr h) r make few =
-    an_error error.Rank (not (int_le (pos 1) j && int_lt j (pos 1 +ℤ pos r))) (make (unsigned_abs (j -ℤ pos 1)))
+    fails_if error.Rank (not (int_le (pos 1) j && int_lt j (pos 1 +ℤ pos r))) (make (unsigned_abs (j -ℤ pos 1)))
     (not_both (int_le (pos 1) j) (int_lt j (pos 1 +ℤ pos r)) (int_lt-not j (pos 1 +ℤ pos r) (omega (arith, ints, h.0, h.1, few))))
-    ∙ sym (an_error error.Rank (not (int_le o k && int_lt k (o +ℤ pos r))) (make (unsigned_abs (k -ℤ o)))
+    ∙ sym (fails_if error.Rank (not (int_le o k && int_lt k (o +ℤ pos r))) (make (unsigned_abs (k -ℤ o)))
     (not_both (int_le o k) (int_lt k (o +ℤ pos r)) (int_lt-not k (o +ℤ pos r) (by origin))))
   where
     by : (o ≡ pos 0) ⊎ (o ≡ pos 1) → (o +ℤ pos r) ≤ℤ k

@@ -18,7 +18,7 @@ use Rattle.made_leaf.specs.declared.faults.MadeFault.TheVariants as made
 use Rattle.made_leaf.specs.Made.{Fetched, AsksFor, IsMadeAsking, IsMadeBy}
 use Rattle.made_leaf.proofs.MadeLemmas.{made_only, made_follows, made_stands}
 use Rattle.made_fns.specs.Answers.{IsNumbersOf}
-use Rattle.pending_steps.proofs.LeafLemmas.{stands_kept}
+use Rattle.leaf_names.proofs.StandsLemmas.{stands_kept}
 use Rattle.leaf_steps.specs.Making.{Answers, IsMade}
 
 -- whatever was counted before the leaf came, nothing else was done

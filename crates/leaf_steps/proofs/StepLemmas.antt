@@ -27,8 +27,9 @@ use Rattle.leaf_steps.specs.Gives.{Gives}
 use Rattle.leaf_steps.specs.Taking.{Taken, AtError}
 use Rattle.leaf_steps.specs.Making.{StandsForAnswer, Answers, IsMade, halt_at, IsPut, IsStep}
 use Rattle.leaf_steps.proofs.GivesLemmas.{steps_from, refuses_from}
-use Rattle.leaf_steps.proofs.TakingLemmas.{array_is, taken_holds}
+use Rattle.leaf_steps.proofs.TakingLemmas.{taken_holds}
 use Rattle.leaf_steps.proofs.MakingLemmas.{let_go, answers_kept}
+use Rattle.leaf_names.proofs.StandsLemmas.{array_is}
 
 -- the operands went, and what a function gave for them is in hand
 pub record Given (old new : StoreView) (before after : List SegmentView) (operands : List Array) (answer : Answer) (result : Result Leaf MadeFault) : Type 0 where

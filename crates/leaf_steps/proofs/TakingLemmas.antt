@@ -9,9 +9,8 @@ use Rattle.array_store.proofs.FollowsLemmas.{follows_then, follows_beside, follo
 use Rattle.drag_along.specs.declared.leaves.Leaf.{Leaf}
 use Rattle.drag_along.specs.Nodes.{named_by_leaf}
 use Rattle.drag_along.specs.Segments.{SegmentView}
-use Rattle.drag_along.specs.Meaning.{Meaning, Means, leaf_array}
+use Rattle.drag_along.specs.Meaning.{Meaning, Means}
 use Rattle.drag_along.specs.Lawful.{SameData}
-use Rattle.drag_along.specs.Views.{StandsForArray}
 use Rattle.drag_along.proofs.KeptLemmas.{follows_keeps, leaf_kept}
 use Rattle.value_stack.specs.Stacks.{named_on, entries, MayFail, IsLeastOrNone}
 use Rattle.leaf_names.specs.Variables.{array_of}
@@ -23,6 +22,8 @@ use Rattle.pending_steps.specs.Shapes.{AreArrays}
 use Rattle.pending_steps.specs.Steps.{Moves, IsNotComputed}
 use Rattle.leaf_steps.specs.declared.takes.Arguments.{Arguments}
 use Rattle.leaf_steps.specs.Taking.{Taken, TakesOne, TakesTwo, AtError, named_by_arguments}
+use Rattle.value_stack.proofs.NewestLemmas.{get-end}
+use Rattle.leaf_names.proofs.StandsLemmas.{array_is}
 
 -- ---- entries that can't fail
 
@@ -30,10 +31,6 @@ get-front : (older : List SegmentView) (s t : SegmentView) (k : ℕ) → slice_g
 get-front [] s t k g = absurd cc
 get-front (b ∷ older) s t zero g = g
 get-front (b ∷ older) s t (suc k) g = get-front older s t k g
-
-get-end : (older : List SegmentView) (s : SegmentView) → slice_get (older ++ s ∷ []) (length older) ≡ Some s
-get-end [] s = refl
-get-end (b ∷ older) s = get-end older s
 
 not_true : (b : Bool) → ¬ (IsTrue b) → b ≡ false
 not_true true h = absurd (h refl)
@@ -76,10 +73,6 @@ older_listed (x ∷ ms) m (a ∷ arrays) e =
     record { arrays = a ∷ rest.arrays; are = ap (λ (y : Meaning). y ∷ ms) head ∙ ap (λ (ys : List Meaning). Means a ∷ ys) rest.are }
 
 -- ---- the newest goes into hand
-
--- a leaf that stands for an array is of it
-pub array_is : (store : StoreView) (leaf : Leaf) (a : Array) → StandsForArray store leaf a → array_of store leaf ≡ a
-array_is store leaf a stands = ap (λ (ns : List ℕ). leaf_array store ns leaf) stands.shape.same ∙ stands.array
 
 -- one more, where the others mean arrays
 pub taken_more : (old mid new : StoreView) (before between after : List SegmentView) (operands : List Array) (hand : LeafCounts) (leaf : Leaf) → Taken old mid before between operands hand → TakesLeaf mid new between after leaf → Taken old new before after (array_of new leaf ∷ operands) (both hand (named_by_leaf leaf))

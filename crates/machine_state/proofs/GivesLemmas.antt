@@ -1,10 +1,9 @@
 -- Leaves that are given to names.
-use Rattle.std.proofs.Common.{◌≡◌, ◌⊎◌, ℕ, ℤ, pos, List, [], ◌∷◌, ◌++◌, Bool, true, false, cond, ◌==◌, ◌≤◌, Some, None, Ok, Err, refl, sym, ap, subst, ◌∙◌, arith}
-use Rattle.std.specs.Prelude.{Result, slice_get}
+use Rattle.std.proofs.Common.{◌≡◌, ◌⊎◌, ℕ, ℤ, pos, List, [], ◌∷◌, ◌++◌, None, Ok, Err, sym, ap, subst, ◌∙◌, arith}
+use Rattle.std.specs.Prelude.{Result}
 use Rattle.apl_base.specs.Array.{Array}
 use Rattle.array_store.specs.Follows.{LeafCounts, Follows, Holds, both, none}
 use Rattle.drag_along.specs.declared.leaves.Leaf.{Leaf}
-use Rattle.drag_along.specs.declared.leaves.Leaf.TheVariants.{Stored, Gen}
 use Rattle.drag_along.specs.Nodes.{named_by_leaf}
 use Rattle.drag_along.specs.Segments.{SegmentView}
 use Rattle.drag_along.specs.Lawful.{SameData, IsLawfulLeaf}
@@ -60,7 +59,7 @@ taken_in_hand m0 m1 leaf names origin take hand l =
       origin = subst (λ (o : ℤ). (o ≡ pos 0) ⊎ (o ≡ pos 1)) (sym origin) l.origin;
     }
 
-taken_variables : (m0 m1 : Machine) (leaf : Leaf) → m1.names ≡ m0.names → m1.origin ≡ m0.origin → TakesLeaf m0.store m1.store m0.stack m1.stack leaf → (hand : LeafCounts) → IsLawfulMachine m0 hand → variables m1 ≡ variables m0
+pub taken_variables : (m0 m1 : Machine) (leaf : Leaf) → m1.names ≡ m0.names → m1.origin ≡ m0.origin → TakesLeaf m0.store m1.store m0.stack m1.stack leaf → (hand : LeafCounts) → IsLawfulMachine m0 hand → variables m1 ≡ variables m0
 taken_variables m0 m1 leaf names origin take hand l =
     let d = desk_follows m0.store m1.store m0.names m0.stack m1.stack none (named_by_leaf leaf) hand (with_none m0.store m0.names m0.stack hand l.desk) take.moves.follows take.moves.lawful in
     ap (λ (n : Environment Leaf). variables_of m1.store m1.origin n) names ∙ ap (λ (o : ℤ). variables_of m1.store o m0.names) origin ∙ d.1 m0.origin
@@ -115,23 +114,6 @@ settled_assigns m0 m1 m3 name k same a = record {
   pending = λ hand l. a.pending hand (k.lawful hand l) ∙ same;
   limit = a.limit ∙ k.limit;
 }
-
--- a leaf names an owner at most once
-pub few_leaf : (leaf : Leaf) (key : ℕ) → named_by_leaf leaf key ≤ 1
-few_leaf (Stored owner desc kind) key = by (key == owner)
-  where
-    by : (t : Bool) → cond t 1 0 ≤ 1
-    by true = omega arith
-    by false = omega arith
-few_leaf (Gen desc kind) key = omega arith
-
--- where no entry may fail, none at a position does
-pub safe_at : (stack : List SegmentView) (k : ℕ) (s : SegmentView) → IsLeastOrNone MayFail stack 0 None → slice_get stack k ≡ Some s → s.may_fail ≡ false
-safe_at stack k s safe g = by s.may_fail refl
-  where
-    by : (t : Bool) → s.may_fail ≡ t → s.may_fail ≡ false
-    by true e = absurd (safe k (omega arith) (s, g, e))
-    by false e = e
 
 pub on_error_so : (r : Result (Unit {0}) Halt) (P : Type 0) → P → OnError r P
 on_error_so (Ok done) P p = tt

@@ -19,7 +19,7 @@ use Rattle.machine_state.specs.Steps.{Keeps}
 pub with_none : (store : StoreView) (names : Environment Leaf) (stack : List SegmentView) (hand : LeafCounts) → IsLawfulDesk store names stack hand → IsLawfulDesk store names stack (both none hand)
 with_none store names stack hand d = record { lawful = d.lawful; filling = d.filling; entries = d.entries; held = λ key. omega (arith, d.held key) }
 
-without_none : (store : StoreView) (names : Environment Leaf) (stack : List SegmentView) (hand : LeafCounts) → IsLawfulDesk store names stack (both none hand) → IsLawfulDesk store names stack hand
+pub without_none : (store : StoreView) (names : Environment Leaf) (stack : List SegmentView) (hand : LeafCounts) → IsLawfulDesk store names stack (both none hand) → IsLawfulDesk store names stack hand
 without_none store names stack hand d = record { lawful = d.lawful; filling = d.filling; entries = d.entries; held = λ key. omega (arith, d.held key) }
 
 pub keeps : (old new : Machine) → new.names ≡ old.names → new.origin ≡ old.origin → Moves old.store new.store old.stack new.stack none none → Keeps old new
@@ -44,3 +44,11 @@ reaches_so (Ok done) P Q f p = f p
 reaches_so (Err (halt.Error kind place)) P Q f p = f p
 reaches_so (Err (halt.WsFull live asked)) P Q f p = tt
 reaches_so (Err halt.NoMemory) P Q f p = tt
+
+-- steps one after the other
+pub keeps_then : (a b c : Machine) → Keeps a b → Keeps b c → Keeps a c
+keeps_then a b c first second = record {
+  lawful = λ hand l. second.lawful hand (first.lawful hand l);
+  variables = λ hand l. second.variables hand (first.lawful hand l) ∙ first.variables hand l;
+  limit = second.limit ∙ first.limit;
+}

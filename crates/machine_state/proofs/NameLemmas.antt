@@ -1,18 +1,13 @@
 -- The value of a name comes as the newest entry.
-use Rattle.std.proofs.Common.{◌≡◌, inl, inr, ℕ, ◌*◌, ◌≤◌, List, [], ◌∷◌, map, length, Option, Some, None, refl, sym, ap, subst, ◌∙◌, arith}
-use Rattle.std.specs.List.{AllByRecursion}
+use Rattle.std.proofs.Common.{◌≡◌, inl, inr, ℕ, List, [], ◌∷◌, map, Option, Some, None, refl, sym, ap, subst, ◌∙◌}
 use Rattle.std.specs.Option.{option_map}
 use Rattle.std.proofs.lemmas.List.{append-nil}
-use Rattle.std.proofs.lemmas.List.Sums.{sum_by-cons}
 use Rattle.apl_base.specs.declared.faults.ErrorKind.{ErrorKind}
 use Rattle.apl_base.specs.declared.faults.ErrorKind.TheVariants as error
 use Rattle.apl_base.specs.declared.faults.Place.{Place}
 use Rattle.apl_base.specs.Array.{Array}
 use Rattle.drag_along.specs.declared.leaves.Leaf.{Leaf}
-use Rattle.drag_along.specs.Segments.{SegmentView, IsSegment, named_by}
 use Rattle.drag_along.specs.Meaning.{Means}
-use Rattle.drag_along.proofs.OneLeafLemmas.{named_at_most}
-use Rattle.value_stack.specs.Stacks.{named_on}
 use Rattle.apl_model.specs.Environment.{Environment, look_up}
 use Rattle.apl_model.proofs.Mapped.{look_up_is_mapped}
 use Rattle.apl_model.specs.Evaluation.{State, Calls, of_arrays, needed}
@@ -28,12 +23,6 @@ use Rattle.pending_steps.specs.Leaves.{PutsHeld}
 use Rattle.machine_state.specs.declared.machines.Machine.{Machine}
 use Rattle.machine_state.specs.StandsFor.{variables}
 use Rattle.machine_state.specs.Steps.{pending, StandsAt, StepsAt, RefusesAt, IsHaltedAt, IsUnset}
-
--- 65 leaves an entry at most name an owner
-pub few_named : (stack : List SegmentView) (key : ℕ) → AllByRecursion IsSegment stack → named_on stack key ≤ 65 * length stack
-few_named [] key all = omega arith
-few_named (g ∷ stack) key all =
-    omega (arith, sum_by-cons (λ (x : SegmentView). named_by x key) g stack, named_at_most g key all.0, few_named stack key all.1)
 
 -- what a name means to the machine
 pub found_value : (m : Machine) (name : List ℕ) (o : Option Leaf) → look_up m.names name ≡ o → look_up (variables m) name ≡ option_map (array_of m.store) o

@@ -4,25 +4,13 @@ use Rattle.std.proofs.lemmas.Bool.{lt-leb, leb-false}
 use Rattle.std.proofs.lemmas.Int.{ints}
 use Rattle.apl_base.specs.declared.faults.ErrorKind.{ErrorKind}
 use Rattle.apl_base.specs.declared.faults.ErrorKind.TheVariants as error
-use Rattle.apl_base.specs.Array.{Array, IsShape, IsIndex, cell_at}
+use Rattle.apl_base.specs.Array.{Array, IsIndex, cell_at}
 use Rattle.apl_base.specs.Elements.{gathered}
 use Rattle.apl_base.proofs.Elements.{tabulated-same}
-use Rattle.apl_model.specs.Whole.{Answer, rank, is_shape, error_if, error_or, within_limit}
+use Rattle.apl_model.specs.Whole.{Answer, rank, error_if, error_or}
 use Rattle.apl_model.specs.Made.{is_above_one}
-use Rattle.apl_model_laws.proofs.Arrays.{shapes_are_tested}
 
 -- ---- tests
-
--- an error whose condition does not hold is passed over
-pub passes_if : (e : ErrorKind) (t : Bool) (next : Answer) → t ≡ false → error_if e t next ≡ next
-passes_if e t next h = ap (λ (b : Bool). error_if e b next) h
-
-pub passes_or : (e : ErrorKind) (t : Bool) (make : Unit {0} → Answer) → t ≡ false → error_or e t make ≡ make tt
-passes_or e t make h = ap (λ (b : Bool). error_or e b make) h
-
--- lengths that make a shape are within the limit
-pub passes_limit : (ns : List ℕ) (make : Unit {0} → Answer) → IsShape ns → within_limit ns make ≡ make tt
-passes_limit ns make h = passes_or error.Limit (not (is_shape ns)) make (ap not ((shapes_are_tested ns).1 h))
 
 -- and back: an answer has passed
 pub passed_if : (e : ErrorKind) (t : Bool) (next : Answer) (c : Array) → error_if e t next ≡ Ok c → (t ≡ false) × (next ≡ Ok c)

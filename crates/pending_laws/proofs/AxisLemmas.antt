@@ -23,7 +23,8 @@ use Rattle.apl_model.specs.Made.{is_above_one, less_origin, are_axes}
 use Rattle.apl_model_laws.proofs.TestedAxes.{axes_are_tested}
 use Rattle.pending_laws.specs.Joins.{IsComplete}
 use Rattle.pending_laws.specs.Selections.{axes_named, ReversedIsSelected, ReversedHasAxis, ReversedScalarStays, FlippedIsSelected, TransposedIsSelected, TransposedHasAxes}
-use Rattle.pending_laws.proofs.AnswerLemmas.{passes_if, passes_or, passed_if, passed_or, above_one-not, not-above_one, neither, le-test, lt-test, gathered-same}
+use Rattle.pending_laws.proofs.AnswerLemmas.{passed_if, passed_or, above_one-not, not-above_one, neither, le-test, lt-test, gathered-same}
+use Rattle.apl_model_laws.proofs.Refusals.{passes_if, passes_or}
 
 -- ---- reversals
 

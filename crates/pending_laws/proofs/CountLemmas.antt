@@ -14,8 +14,9 @@ use Rattle.apl_model.specs.Whole.{Answer, rank, count, is_text, error_if}
 use Rattle.apl_model.specs.Made.{is_above_one, taken_shape, taken_place, taken_places, read_or_fill, with_shape}
 use Rattle.pending_laws.specs.Joins.{IsComplete}
 use Rattle.pending_laws.specs.Selections.{capped, capped_counts, ListsCounts, TakenScalarExtends, TakenFromItself, TakenIsSelected, DroppedIsSelected, TakenHasCounts, DroppedHasCounts}
-use Rattle.pending_laws.proofs.AnswerLemmas.{passes_if, passes_limit, passed_if, above_one-not, not-above_one, gathered-same}
+use Rattle.pending_laws.proofs.AnswerLemmas.{passed_if, above_one-not, not-above_one, gathered-same}
 use Rattle.pending_laws.proofs.ExtensionLemmas.{extension_to_one_element}
+use Rattle.apl_model_laws.proofs.Refusals.{passes_if, passes_limit}
 
 -- ---- lengths that become shorter
 

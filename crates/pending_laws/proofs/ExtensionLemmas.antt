@@ -19,19 +19,15 @@ use Rattle.apl_model.specs.Lift.{spread, spread_to, lift_over}
 use Rattle.apl_model.specs.Product.{elem_at}
 use Rattle.pending_laws.specs.Joins.{meaning_of, IsComplete}
 use Rattle.pending_laws.specs.Extensions.{ExtensionIsSpread, ExtensionToOneElement, IsOver, ExtendedJoinIsTheLift, OuterIsTheLift, OuterJoinIsTheProduct}
-use Rattle.pending_laws.proofs.AnswerLemmas.{passes_limit}
 use Rattle.pending_laws.proofs.JoinLemmas.{spread-whole, paired, lift-paired, meaning-or, two_are_the_lift}
+use Rattle.apl_model_laws.proofs.Refusals.{passes_limit}
+use Rattle.array_desc.proofs.CarryLemmas.{place_at-zeros}
 
 -- ---- extensions
 
--- the only element stands at place 0
-place-only : (ns : List ℕ) → place_at ns (only_index ns) ≡ 0
-place-only [] = refl
-place-only (n ∷ ns) = omega (arith, place-only ns)
-
 -- so it is the first cell
 cell-only : (a : Array) → cell_at a (only_index a.shape) ≡ first a
-cell-only a = ap (λ (p : ℕ). slice_index_or a.cells p (pos 0)) (place-only a.shape)
+cell-only a = ap (λ (p : ℕ). slice_index_or a.cells p (pos 0)) (place_at-zeros a.shape)
 
 -- the same at each number
 always : (k : Kind) (cell : ℤ) (s n : ℕ) → map (element k) (map (λ (p : ℕ). cell) (upward s n)) ≡ replicate n (element k cell)
@@ -50,7 +46,7 @@ extension_to_one_element a ns h one same =
     let f : ℕ → ℤ = λ p. cell_at a (only_index a.shape) in
     let made : List ℤ → Array = λ cells. let c : Array = record { kind = a.kind; shape = ns; cells = cells } in c in
     ap made (list_by_places f a.cells (size_of ns) (pos 0) (h ∙ one ∙ sym same)
-    (λ p below. let e : place_at a.shape (only_index a.shape) ≡ p = omega (arith, below, same, place-only a.shape) in ap (λ (k : ℕ). get_or a.cells k (pos 0)) e))
+    (λ p below. let e : place_at a.shape (only_index a.shape) ≡ p = omega (arith, below, same, place_at-zeros a.shape) in ap (λ (k : ℕ). get_or a.cells k (pos 0)) e))
 
 -- ---- operands over a shape
 

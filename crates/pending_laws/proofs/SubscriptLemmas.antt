@@ -18,13 +18,15 @@ use Rattle.beating.specs.declared.runs.Run.{Run}
 use Rattle.beating.specs.declared.selections.Item.{Item}
 use Rattle.beating.specs.declared.selections.Selection.TheVariants as select
 use Rattle.beating.specs.Runs.{run_value}
-use Rattle.beating.specs.Positions.{NamesPlace, OnAxis, IsItemOf}
+use Rattle.beating.specs.Positions.{NamesPlace, IsItemOf}
 use Rattle.beating.specs.Positions as positions
 use Rattle.beating.specs.Selecting.{position_of}
 use Rattle.apl_model.specs.Whole.{Answer, rank, is_char, is_empty, is_text, first, error_if, within_limit}
 use Rattle.apl_model.specs.Subscript.{is_text_position, is_place, in_axis, in_axes, axes_of, positions_shape, place_of, positions_index}
 use Rattle.pending_laws.specs.Subscripts.{NamesPlaces, EachNamesPlaces, SubscriptHasPlaces, AreInProgression, lone_number, ScalarsAreInProgression, RunsAreInProgression, IsItemAt, AreItems, SubscriptIsSelected}
-use Rattle.pending_laws.proofs.AnswerLemmas.{passed_if, passes_if, passes_limit, le-test, lt-test, gathered-same}
+use Rattle.pending_laws.proofs.AnswerLemmas.{passed_if, le-test, lt-test, gathered-same}
+use Rattle.apl_model_laws.proofs.Refusals.{passes_if, passes_limit}
+use Rattle.apl_base.proofs.ShapeLemmas.{index_parts}
 
 -- ---- what is in progression
 
@@ -70,11 +72,11 @@ runs_are_in_progression p r kind h axes are = record {
 -- ---- one position
 
 -- what is so at each place is so of each
-by_places : (P : ℤ → Type 0) (xs : List ℤ) → ((j : ℕ) → j < length xs → P (slice_index_or xs j (pos 0))) → AllByRecursion P xs
+pub by_places : (P : ℤ → Type 0) (xs : List ℤ) → ((j : ℕ) → j < length xs → P (slice_index_or xs j (pos 0))) → AllByRecursion P xs
 by_places P [] h = tt
 by_places P (x ∷ xs) h = (h 0 (omega arith), by_places P xs (λ j below. h (suc j) (omega (arith, below))))
 
-named : (o : ℤ) (n : ℕ) (v : ℤ) → NamesPlace o n v → is_place o n v ≡ true
+pub named : (o : ℤ) (n : ℕ) (v : ℤ) → NamesPlace o n v → is_place o n v ≡ true
 named o n v h = rw (le-test o v h.0, lt-test v (o +ℤ pos n) h.1) refl
 
 -- no position is characters
@@ -83,7 +85,7 @@ item-number o n None kept h = refl
 item-number o n (Some p) kept h = h.progression.numbers
 
 -- each value is on the axis
-item-axis : (o : ℤ) (n : ℕ) (p : Option Array) (kept : Item) → IsItemAt o n p kept → in_axis o n p ≡ true
+pub item-axis : (o : ℤ) (n : ℕ) (p : Option Array) (kept : Item) → IsItemAt o n p kept → in_axis o n p ≡ true
 item-axis o n None kept h = refl
 item-axis o n (Some p) kept h =
     let r : Run = h.run in
@@ -93,7 +95,7 @@ item-axis o n (Some p) kept h =
     ap (is_place o n) here ∙ named o n (run_value r j) (h.on_axis j on)))
 
 -- an item gives the axes of its position
-item-shape : (o : ℤ) (n : ℕ) (p : Option Array) (kept : Item) → IsItemAt o n p kept → subscript_shape (position_of kept ∷ []) (n ∷ []) ≡ axes_of n p
+pub item-shape : (o : ℤ) (n : ℕ) (p : Option Array) (kept : Item) → IsItemAt o n p kept → subscript_shape (position_of kept ∷ []) (n ∷ []) ≡ axes_of n p
 item-shape o n None kept h = ap (λ (i : Item). subscript_shape (position_of i ∷ []) (n ∷ [])) h
 item-shape o n (Some p) kept h = h.places.shape ∙ sym h.progression.shape
 
@@ -132,7 +134,7 @@ item-index o n (Some p) kept is h q =
 -- ---- one position, and then the others
 
 -- the axes of the first item stand first
-shape-step : (q : Position) (qs : List Position) (n : ℕ) (ns : List ℕ) → subscript_shape (q ∷ qs) (n ∷ ns) ≡ subscript_shape (q ∷ []) (n ∷ []) ++ subscript_shape qs ns
+pub shape-step : (q : Position) (qs : List Position) (n : ℕ) (ns : List ℕ) → subscript_shape (q ∷ qs) (n ∷ ns) ≡ subscript_shape (q ∷ []) (n ∷ []) ++ subscript_shape qs ns
 shape-step whole qs n ns = refl
 shape-step (one p) qs n ns = refl
 shape-step (run from step count) qs n ns = refl
@@ -148,12 +150,6 @@ index-step (one p) qs n (j ∷ js) ks h = absurd (omega (arith, h))
 index-step (run from step count) qs n [] ks h = absurd (omega (arith, h))
 index-step (run from step count) qs n (j ∷ []) ks h = refl
 index-step (run from step count) qs n (j ∷ k ∷ js) ks h = absurd (omega (arith, h))
-
--- an index of joined lengths, in two parts
-parts : (ms ns is : List ℕ) → IsIndex (ms ++ ns) is → IsIndex ms (take (length ms) is) × IsIndex ns (drop (length ms) is)
-parts [] ns is h = (tt, h)
-parts (m ∷ ms) ns (i ∷ is) h = let r = parts ms ns is h.1 in ((h.0, r.0), r.1)
-parts (m ∷ ms) ns [] h = absurd h
 
 -- ---- all positions
 
@@ -181,7 +177,7 @@ items-tests o (n ∷ ns) [] items h = absurd h
 items-tests o (n ∷ ns) (p ∷ ps) [] h = absurd h
 
 -- the same axes
-items-shape : (o : ℤ) (ns : List ℕ) (ps : List (Option Array)) (items : List Item) → AreItems o ns ps items → subscript_shape (map position_of items) ns ≡ positions_shape ns ps
+pub items-shape : (o : ℤ) (ns : List ℕ) (ps : List (Option Array)) (items : List Item) → AreItems o ns ps items → subscript_shape (map position_of items) ns ≡ positions_shape ns ps
 items-shape o [] [] [] h = refl
 items-shape o (n ∷ ns) (p ∷ ps) (i ∷ items) h =
     shape-step (position_of i) (map position_of items) n ns
@@ -198,7 +194,7 @@ items-index : (o : ℤ) (ns : List ℕ) (ps : List (Option Array)) (items : List
 items-index o [] [] [] is h q = refl
 items-index o (n ∷ ns) (p ∷ ps) (i ∷ items) is h q =
     let k : ℕ = length (axes_of n p) in
-    let s = parts (axes_of n p) (positions_shape ns ps) is q in
+    let s = index_parts (axes_of n p) (positions_shape ns ps) is q in
     let qs : List Position = map position_of items in
     let same : length (take k is) ≡ length (subscript_shape (position_of i ∷ []) (n ∷ [])) =
     IsIndex-length (axes_of n p) (take k is) s.0 ∙ ap length (sym (item-shape o n p i h.0)) in
@@ -227,7 +223,7 @@ subscript_is_selected o a ps other h fits = absurd h
 
 -- ---- where there is an answer
 
-place-named : (o : ℤ) (n : ℕ) (v : ℤ) → is_place o n v ≡ true → NamesPlace o n v
+pub place-named : (o : ℤ) (n : ℕ) (v : ℤ) → is_place o n v ≡ true → NamesPlace o n v
 place-named o n v h = let s = both_parts (int_le o v) (int_lt v (o +ℤ pos n)) h in (omega (arith, ints, s.0), omega (arith, ints, s.1))
 
 places-named : (o : ℤ) (n : ℕ) (p : Option Array) → is_text_position p ≡ false → in_axis o n p ≡ true → NamesPlaces o n p

@@ -34,7 +34,7 @@ array_entry store s a h e =
     record { array = a; means = e; shape = is.shape; complete = is.count ∙ ap size_of (sym is.shape) }
 
 -- an entry that can't fail means an array
-safe_entry : (store : StoreView) (s : SegmentView) → IsSegment s → IsLawful store s → s.may_fail ≡ false → IsArrayEntry store s
+pub safe_entry : (store : StoreView) (s : SegmentView) → IsSegment s → IsLawful store s → s.may_fail ≡ false → IsArrayEntry store s
 safe_entry store s h l safe = by (entry store s) refl (l.sound safe)
   where
     by : (m : Meaning) → entry store s ≡ m → MeansWithin s.range m → IsArrayEntry store s

@@ -16,6 +16,7 @@ use Rattle.apl_compile.specs.declared.codes.Op.TheVariants as op
 use Rattle.standing.proofs.StandLemmas.{unfit_ends}
 use Rattle.pending_steps.specs.Shapes.{shapes_of, newest_shape, second_shape, IsArrayEntry, AreArrays}
 use Rattle.pending_steps.specs.Steps.{Refuses}
+use Rattle.value_stack.proofs.NewestLemmas.{get-behind}
 
 -- the shape at a place is that of the entry there
 pub end_shape : (stack : List SegmentView) (k : ℕ) (s : SegmentView) → slice_get stack k ≡ Some s → slice_index_or (shapes_of stack) k [] ≡ s.shape
@@ -24,10 +25,6 @@ end_shape (x ∷ stack) zero s g =
     let same : x ≡ s = cc in
     ap (λ (y : SegmentView). y.shape) same
 end_shape (x ∷ stack) (suc k) s g = end_shape stack k s g
-
-get-behind : (before : List SegmentView) (a : SegmentView) (after : List SegmentView) → slice_get (before ++ a ∷ after) (length before) ≡ Some a
-get-behind [] a after = refl
-get-behind (b ∷ before) a after = get-behind before a after
 
 -- the two newest entries, above older ones
 pub record AreNewest (stack older : List SegmentView) (left right : SegmentView) : Type 0 where

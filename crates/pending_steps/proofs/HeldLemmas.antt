@@ -19,6 +19,7 @@ use Rattle.pending_steps.specs.Steps.{Moves}
 use Rattle.pending_steps.specs.Leaves.{PutsLeaf, PutsHeld}
 use Rattle.pending_steps.proofs.StepLemmas.{older_lawful}
 use Rattle.pending_steps.proofs.LiteralLemmas.{beside_made}
+use Rattle.value_stack.proofs.NewestLemmas.{get-end}
 
 pub held_puts : (old new : StoreView) (before after : List SegmentView) (leaf held : Leaf) → IsLawfulStack old before → Holds old (named_on before) → held ≡ leaf → StandsForArray new held (leaf_array old (leaf_shape leaf) leaf) → Follows old new none (named_by_leaf leaf) → PutsLeaf new before after held → PutsHeld old new before after leaf
 held_puts old new before after leaf held lawful holds same stands follows puts =
@@ -36,10 +37,6 @@ held_puts old new before after leaf held lawful holds same stands follows puts =
             (follows_counted new new (both (named_on before) (named_by_leaf held)) (both (named_on after) none) (both (named_on before) (named_by_leaf leaf)) (both (named_on after) none) (λ key. omega (arith, named key)) (λ key. refl) second);
       };
     }
-
-get-end : (older : List SegmentView) (s : SegmentView) → slice_get (older ++ s ∷ []) (length older) ≡ Some s
-get-end [] s = refl
-get-end (b ∷ older) s = get-end older s
 
 -- the newest entry is the one that was taken off
 pub newest_was : (stack older : List SegmentView) (s t : SegmentView) → stack ≡ older ++ s ∷ [] → slice_get stack (length stack - 1) ≡ Some t → t ≡ s

@@ -12,26 +12,13 @@ use Rattle.drag_along.specs.Segments.{SegmentView, IsSegment, named_by, leaf_seg
 use Rattle.drag_along.specs.Meaning.{Meaning, Means, leaf_array, entry}
 use Rattle.drag_along.specs.Lawful.{IsLawful, IsLawfulLeaf, SameData}
 use Rattle.drag_along.specs.Views.{StandsForArray, only_leaf}
-use Rattle.drag_along.proofs.KeptLemmas.{follows_keeps, leaf_kept}
+use Rattle.drag_along.proofs.KeptLemmas.{follows_keeps}
 use Rattle.drag_along.proofs.OneLeafLemmas.{one_leaf_segment, one_leaf_means, one_leaf_lawful}
 use Rattle.value_stack.specs.Stacks.{named_on, entries, IsLawfulStack}
 use Rattle.value_stack.proofs.EntriesLemmas.{named_on_both, stack_kept}
-use Rattle.leaf_names.proofs.KeptLemmas.{array_kept}
 use Rattle.pending_steps.specs.Leaves.{TakesLeaf, ComesAsLeaf}
 use Rattle.pending_steps.proofs.StepLemmas.{older_lawful}
-
--- a leaf that stands for an array does so over the same data
-pub stands_kept : (old new : StoreView) (leaf : Leaf) (a : Array) → SameData old new (named_by_leaf leaf) → StandsForArray old leaf a → StandsForArray new leaf a
-stands_kept old new leaf a same s = record {
-  lawful = (leaf_kept old new leaf same s.lawful).0;
-  shape = s.shape;
-  kind = s.kind;
-  array =
-      ap (λ (ns : List ℕ). leaf_array new ns leaf) (sym s.shape.same)
-      ∙ array_kept old new leaf same s.lawful
-      ∙ ap (λ (ns : List ℕ). leaf_array old ns leaf) s.shape.same
-      ∙ s.array;
-}
+use Rattle.leaf_names.proofs.StandsLemmas.{stands_kept}
 
 -- an expression that is a leaf comes as that leaf
 pub leaf_comes : (store : StoreView) (s : SegmentView) (leaf copied : Leaf) → IsSegment s → IsLawful store s → only_leaf s.nodes ≡ Some leaf → copied ≡ leaf → IsDesc (leaf_desc leaf) → ComesAsLeaf store store s copied

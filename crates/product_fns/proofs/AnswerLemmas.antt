@@ -17,7 +17,6 @@ use Rattle.e_machine.specs.Forced.{IsNewLeaf}
 use Rattle.apl_model.specs.declared.functions.Axis.{Axis}
 use Rattle.apl_model.specs.Whole.{Answer, within_limit, or_domain}
 use Rattle.apl_model.specs.Product.{reduced_along, reduce_at}
-use Rattle.pending_laws.proofs.AnswerLemmas.{passes_limit}
 use Rattle.leaf_names.specs.Variables.{array_of}
 use Rattle.made_leaf.specs.declared.faults.MadeFault.{MadeFault}
 use Rattle.made_leaf.specs.declared.faults.MadeFault.TheVariants as made
@@ -29,6 +28,7 @@ use Rattle.product_fns.specs.Folding.{reduced_kind, rows_along, AreAllResults, H
 use Rattle.product_fns.specs.Reduction.{reduce_of, axis_number, reduced_shape, reduce_applications, along_applications, Asks, AsksForShape, Applied, IsReducedAlong, IsAxisOf}
 use Rattle.product_fns.proofs.GroupLemmas.{only_as}
 use Rattle.product_fns.proofs.ReducedLemmas.{reduced-ok, reduced-domain}
+use Rattle.apl_model_laws.proofs.Refusals.{passes_limit}
 
 -- ---- room
 

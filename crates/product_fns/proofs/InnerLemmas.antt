@@ -22,13 +22,13 @@ use Rattle.apl_base.proofs.Upward.{map-upward-same, length-map-upward, get_or-ma
 use Rattle.apl_model.specs.Whole.{Answer, rank, is_extendable, first, is_shape, within_limit, or_domain, error_if, error_or}
 use Rattle.apl_model.specs.Product.{reduced, elem_at, left_axes, right_axes, left_length, right_length, inner_length, left_at, right_at, inner_at, inner}
 use Rattle.apl_model_laws.proofs.Arrays.{shapes_are_tested}
-use Rattle.pending_laws.proofs.AnswerLemmas.{passes_if, passes_limit}
 use Rattle.scalar_table.specs.Columns.{cell_in, element_in}
 use Rattle.product_fns.specs.Inner.{Lines, pair_at, product_at, AreLines, IsRepeated, AreAllProducts, HasUndefinedProduct, IsLengthFault, HasLength, AreInnerResults, HasUndefinedInner, inner_value, inner_shape}
 use Rattle.product_fns.specs.Reduction.{Asks}
 use Rattle.product_fns.proofs.AnswerLemmas.{asks_within}
 use Rattle.product_fns.proofs.PlaceLemmas.{mod-mul-add, positive_right}
 use Rattle.product_fns.proofs.ReducedLemmas.{undefined-all, defined-cells, cells-back}
+use Rattle.apl_model_laws.proofs.Refusals.{passes_if, passes_limit}
 
 -- ---- places
 

@@ -1,5 +1,5 @@
 -- Outer products that stay pending.
-use Rattle.std.proofs.Common.{◌≡◌, ℕ, ◌+◌, Bool, true, false, not, List, [], ◌∷◌, ◌++◌, Option, Some, None, Ok, Err, refl, sym, ap, ◌∙◌, subst, arith}
+use Rattle.std.proofs.Common.{◌≡◌, ℕ, ◌+◌, List, [], ◌∷◌, ◌++◌, Option, Some, None, Ok, Err, refl, sym, ap, ◌∙◌, subst, arith}
 use Rattle.std.specs.Prelude.{◌↔◌, IfOk, Result}
 use Rattle.apl_base.specs.declared.cells.Interval.{Interval}
 use Rattle.apl_base.specs.declared.faults.ErrorKind.TheVariants as error
@@ -21,22 +21,13 @@ use Rattle.beating.specs.declared.selections.Selection.{Selection}
 use Rattle.beating.specs.declared.selections.Selection.TheVariants as select
 use Rattle.beating.specs.Selecting.{SelectsLeaf, SelectsNodes, selected, selected_meaning}
 use Rattle.beating.proofs.NodeLemmas.{selected_names}
-use Rattle.apl_model.specs.Whole.{Answer, is_shape, error_or, within_limit, or_domain}
-use Rattle.apl_model_laws.proofs.Arrays.{shapes_are_tested}
+use Rattle.apl_model.specs.Whole.{within_limit, or_domain}
 use Rattle.pending_laws.specs.Joins.{meaning_of}
-use Rattle.pending_laws.proofs.AnswerLemmas.{passes_limit}
 use Rattle.pending_laws.proofs.ExtensionLemmas.{outer_join_is_the_product}
 use Rattle.product_fns.specs.Outer.{outer_of, named_by_both, IsExtended, IsPendingProduct}
+use Rattle.apl_model_laws.proofs.Refusals.{over_limit, passes_limit}
 
 -- ---- limits
-
--- lengths that make no shape
-pub past_limit : (ns : List ℕ) (make : Unit {0} → Answer) → (IsShape ns → ⊥) → within_limit ns make ≡ Err error.Limit
-past_limit ns make h = by (is_shape ns) refl
-  where
-    by : (t : Bool) → is_shape ns ≡ t → within_limit ns make ≡ Err error.Limit
-    by true e = absurd (h ((shapes_are_tested ns).0 e))
-    by false e = ap (λ (t : Bool). error_or error.Limit (not t) make) e
 
 -- a DOMAIN ERROR is no LIMIT ERROR
 pub domain_is_no_limit : {X : Type 0} (o : Option X) (make : X → Array) → or_domain o make ≡ Err error.Limit → ⊥
@@ -48,7 +39,7 @@ pub within_is_no_limit : {X : Type 0} (ns : List ℕ) (o : Option X) (make : X �
 within_is_no_limit ns o make h e = domain_is_no_limit o make (sym (passes_limit ns (λ _. or_domain o make) h) ∙ e)
 
 pub outer_past_limit : (s : StoreView) (f : Dya) (a b : Leaf) → (IsShape (leaf_shape a ++ leaf_shape b) → ⊥) → outer_of s f a b ≡ Err error.Limit
-outer_past_limit s f a b h = past_limit (leaf_shape a ++ leaf_shape b) _ h
+outer_past_limit s f a b h = over_limit (leaf_shape a ++ leaf_shape b) _ h
 
 pub outer_within_limit : (s : StoreView) (f : Dya) (a b : Leaf) → IsShape (leaf_shape a ++ leaf_shape b) → outer_of s f a b ≡ Err error.Limit → ⊥
 outer_within_limit s f a b h e = within_is_no_limit (leaf_shape a ++ leaf_shape b) _ _ h e

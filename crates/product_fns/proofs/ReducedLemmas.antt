@@ -14,10 +14,10 @@ use Rattle.apl_base.proofs.Elements.{all_defined-map, all_defined-at, all_define
 use Rattle.apl_base.proofs.Upward.{all-upward, map-upward-same, length-map-upward, get_or-map-places, list_by_places}
 use Rattle.apl_model.specs.Whole.{Answer, or_domain}
 use Rattle.apl_model.specs.Product.{reduced, line_at, elem_at, reduced_along}
-use Rattle.pending_laws.proofs.AnswerLemmas.{passes_limit}
 use Rattle.scalar_table.specs.Columns.{cell_in, element_in}
 use Rattle.product_fns.specs.Folding.{column_of, reduced_kind, result_at, AreResults, HasUndefined, rows_along}
 use Rattle.product_fns.proofs.PlaceLemmas.{place-insert}
+use Rattle.apl_model_laws.proofs.Refusals.{passes_limit}
 
 -- ---- values that are all defined, or not
 

@@ -1,8 +1,8 @@
 -- The errors of an indexed assignment, in their order.
-use Rattle.std.proofs.Common.{◌≡◌, ◌≢◌, ◌==◌, ℕ, zero, suc, ◌+◌, ◌<◌, ◌≤◌, Bool, true, false, not, ◌&&◌, ◌||◌, ℤ, pos, ◌+ℤ◌, inl, inr, List, [], ◌∷◌, ◌++◌, length, map, take, drop, get_or, Option, Some, None, Ok, Err, refl, sym, ap, subst, ◌∙◌, arith, append_assoc, int_le, int_lt}
+use Rattle.std.proofs.Common.{◌≡◌, ◌≢◌, ◌==◌, ℕ, Bool, true, false, not, ◌&&◌, ◌||◌, ℤ, inl, inr, List, [], ◌∷◌, length, Option, Some, None, Ok, Err, refl, sym, ap, subst, ◌∙◌, arith}
 use Rattle.std.specs.Prelude.{nat_eq, sum_by, IfSome, IfNone, MatchOption}
 use Rattle.std.specs.Cmp.Lexicographic.{pointwise}
-use Rattle.std.specs.List.{AllByRecursion, list_any, list_all}
+use Rattle.std.specs.List.{list_any}
 use Rattle.std.proofs.lemmas.Bool.{eqb-true}
 use lib.Pointwise.{bytes_decides}
 use Rattle.std.proofs.lemmas.List.{length-append}
@@ -11,24 +11,18 @@ use Rattle.apl_base.specs.declared.faults.ErrorKind.{ErrorKind}
 use Rattle.apl_base.specs.declared.faults.ErrorKind.TheVariants as error
 use Rattle.apl_base.specs.Array.{Array, IsShape}
 use Rattle.apl_base.specs.Elements.{indices}
-use Rattle.apl_base.proofs.Booleans.{both_parts, neither_part, by_false, eqb-same, not-false}
+use Rattle.apl_base.proofs.Booleans.{by_false, eqb-same}
 use Rattle.apl_model.specs.Made.{kinds_differ}
-use Rattle.apl_model.specs.Subscript.{is_text_position, is_place, in_axis, in_axes, axes_of, positions_shape, positions_index, replaced, replacement}
-use Rattle.apl_model.specs.Whole.{Answer, rank, is_single, is_shape, error_if, error_or, within_limit}
+use Rattle.apl_model.specs.Subscript.{is_text_position, in_axes, positions_shape, replaced, replacement}
+use Rattle.apl_model.specs.Whole.{Answer, rank, is_single, is_shape, error_if, within_limit}
 use Rattle.apl_model_laws.proofs.Arrays.{shapes_are_tested}
-use Rattle.pending_laws.proofs.AnswerLemmas.{passes_if, passes_limit, neither, le-test, lt-test}
 use Rattle.pending_laws.proofs.JoinLemmas.{pointwise-same}
 use Rattle.array_store.specs.Stores.{StoreView}
 use Rattle.drag_along.specs.declared.leaves.Leaf.{Leaf}
 use Rattle.drag_along.specs.Nodes.{leaf_shape}
 use Rattle.made_picks.specs.Picks.{positions_of}
 use Rattle.replacing_steps.specs.Checks.{FitsSelected, IsFit, CanReplace, axes_given}
-
-fails_if : (e : ErrorKind) (t : Bool) (next : Answer) → t ≡ true → error_if e t next ≡ Err e
-fails_if e t next h = ap (λ (b : Bool). error_if e b next) h
-
-fails_or : (e : ErrorKind) (t : Bool) (make : Unit {0} → Answer) → t ≡ true → error_or e t make ≡ Err e
-fails_or e t make h = ap (λ (b : Bool). error_or e b make) h
+use Rattle.apl_model_laws.proofs.Refusals.{fails_if, fails_or, passes_if, passes_limit}
 
 either_true : (s t : Bool) → t ≡ true → s || t ≡ true
 either_true true t h = refl

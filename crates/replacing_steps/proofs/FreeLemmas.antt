@@ -1,11 +1,10 @@
 -- What is known of a machine between the steps of an indexed assignment.
-use Rattle.std.proofs.Common.{◌≡◌, ◌⊎◌, inl, inr, ℕ, zero, suc, ◌+◌, ◌-◌, ◌<◌, ◌≤◌, ℤ, pos, Bool, List, [], ◌∷◌, length, map, Option, Some, None, Ok, Err, refl, sym, ap, subst, ◌∙◌, arith}
-use Rattle.std.specs.Prelude.{slice_get, All, IfSome, IfErr, IsSome, Result}
+use Rattle.std.proofs.Common.{◌≡◌, ◌⊎◌, inl, inr, ℕ, zero, suc, ◌+◌, ◌-◌, ◌<◌, ◌≤◌, ℤ, pos, Bool, List, [], ◌∷◌, length, Option, Some, None, Ok, Err, refl, sym, ap, subst, ◌∙◌, arith}
+use Rattle.std.specs.Prelude.{slice_get, IfErr, IsSome, Result}
 use Rattle.std.proofs.lemmas.List.{length-map}
 use Rattle.apl_base.specs.declared.faults.ErrorKind.{ErrorKind}
 use Rattle.apl_base.specs.declared.faults.ErrorKind.TheVariants as error
 use Rattle.apl_base.specs.Array.{Array}
-use Rattle.array_store.specs.declared.ids.BeginFault.{BeginFault}
 use Rattle.array_store.specs.declared.ids.BeginFault.TheVariants as begin
 use Rattle.array_store.specs.Stores.{StoreView, holders_of, data_at}
 use Rattle.array_store.specs.Counting.{OnlyCounted}
@@ -13,7 +12,7 @@ use Rattle.array_store.specs.Follows.{LeafCounts, Follows, Holds, both, none}
 use Rattle.drag_along.specs.declared.leaves.Leaf.{Leaf}
 use Rattle.drag_along.specs.Lawful.{IsLawfulLeaf}
 use Rattle.drag_along.specs.Segments.{SegmentView}
-use Rattle.drag_along.specs.Meaning.{Meaning, Means, entry}
+use Rattle.drag_along.specs.Meaning.{Meaning, entry}
 use Rattle.value_stack.specs.Stacks.{named_on, entries, MayFail, IsLeastOrNone, IsLawfulStack}
 use Rattle.value_stack.proofs.EntriesLemmas.{entry_is_lawful}
 use Rattle.apl_model.specs.Environment.{Environment, look_up}
@@ -42,13 +41,6 @@ use Rattle.replacing_steps.specs.Replaces.{AreReplacing, IsToWrite, RefusesRepla
 use Rattle.replacing_steps.proofs.MachineLemmas.{replacing_are, to_write_kept, refuses_kept}
 
 -- ---- steps one after the other
-
-pub keeps_then : (a b c : Machine) → Keeps a b → Keeps b c → Keeps a c
-keeps_then a b c k l = record {
-  lawful = λ hand is. l.lawful hand (k.lawful hand is);
-  variables = λ hand is. l.variables hand (k.lawful hand is) ∙ k.variables hand is;
-  limit = l.limit ∙ k.limit;
-}
 
 pub on_error_then : (r : Result (Unit {0}) Halt) (P Q : Type 0) → (P → Q) → OnError r P → OnError r Q
 on_error_then (Ok done) P Q f h = tt

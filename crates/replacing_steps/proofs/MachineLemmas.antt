@@ -1,29 +1,24 @@
 -- An indexed assignment, put together.
-use Rattle.std.proofs.Common.{◌≡◌, ◌⊎◌, inl, inr, ℕ, ℤ, pos, ◌+◌, ◌-◌, ◌<◌, ◌≤◌, Bool, List, [], ◌∷◌, ◌++◌, length, map, take, Option, Some, None, Ok, Err, refl, sym, ap, subst, ◌∙◌, arith, append_assoc}
+use Rattle.std.proofs.Common.{◌≡◌, inl, inr, ℕ, ℤ, ◌+◌, ◌-◌, ◌<◌, ◌≤◌, Bool, List, [], ◌∷◌, ◌++◌, length, map, Option, Some, refl, sym, ap, subst, ◌∙◌, arith, append_assoc}
 use Rattle.std.specs.Prelude.{reverse, slice_get}
-use Rattle.std.specs.Option.{option_map}
 use Rattle.std.proofs.lemmas.List.{append-nil, map-append, length-append, length-map, length-reverse, reverse-reverse}
 use Rattle.apl_base.specs.Array.{Array}
-use Rattle.apl_base.specs.Elements.{indices}
 use Rattle.array_store.specs.Stores.{StoreView}
-use Rattle.array_store.specs.Counting.{OnlyCounted}
-use Rattle.array_store.specs.Follows.{LeafCounts, Follows, both, none}
+use Rattle.array_store.specs.Follows.{LeafCounts}
 use Rattle.drag_along.specs.declared.leaves.Leaf.{Leaf}
 use Rattle.drag_along.specs.Segments.{SegmentView}
 use Rattle.drag_along.specs.Meaning.{Meaning, Means, entry}
-use Rattle.value_stack.specs.Stacks.{named_on, entries}
+use Rattle.value_stack.specs.Stacks.{entries}
 use Rattle.apl_model.specs.Environment.{Environment, look_up, set_name}
 use Rattle.apl_model.specs.Evaluation.{replace_in}
-use Rattle.apl_model.specs.Subscript.{replaced}
 use Rattle.leaf_names.specs.Variables.{array_of}
-use Rattle.pending_steps.specs.Shapes.{AreArrays, IsArrayEntry}
 use Rattle.indexing_steps.specs.Operands.{positions_in, spread, IsLeafEntry, ArePositions, arrays_of}
 use Rattle.indexing_steps.specs.Falls.{Drops}
 use Rattle.drag_along.proofs.OneLeafLemmas.{one_leaf_means}
 use Rattle.indexing_steps.proofs.MaskLemmas.{spread-map}
-use Rattle.indexing_steps.proofs.FallLemmas.{HasNewest, has_newest, entries_end}
-use Rattle.indexing_steps.proofs.OperandLemmas.{get_behind, there_means, map_reverse, all_long}
-use Rattle.indexing_steps.proofs.AnswerLemmas.{first_part, second_part, listed}
+use Rattle.indexing_steps.proofs.FallLemmas.{HasNewest, has_newest}
+use Rattle.indexing_steps.proofs.OperandLemmas.{there_means, map_reverse, all_long}
+use Rattle.indexing_steps.proofs.AnswerLemmas.{first_part, second_part}
 use Rattle.machine_state.specs.declared.machines.Machine.{Machine}
 use Rattle.machine_state.specs.StandsFor.{IsLawfulMachine, variables}
 use Rattle.machine_state.specs.Steps.{pending, Keeps}
@@ -35,6 +30,7 @@ use Rattle.pending_steps.specs.Leaves.{IsStopped}
 use Rattle.pending_steps.specs.Steps.{IsNotComputed}
 use Rattle.replacing_steps.specs.Checks.{CanReplace}
 use Rattle.replacing_steps.specs.Replaces.{AreReplacing, Replaces, IsToWrite, WritesPlaces, RefusesReplace, IsReplaceHalted}
+use Rattle.value_stack.proofs.NewestLemmas.{entries_end, get-behind}
 
 abbrev mean : Array → Meaning
 mean a = Means a
@@ -103,7 +99,7 @@ replacing_are store mask stack leaves value p many one all arrays =
     whole ∙ ap (λ (l : List SegmentView). l ++ reverse p.segments) n.whole ∙ append_assoc n.older (n.newest ∷ []) (reverse p.segments) in
     let place : length stack - 1 - positions_in mask ≡ length n.older = omega (arith, p.place, count, long) in
     let found : slice_get stack (length stack - 1 - positions_in mask) ≡ Some n.newest =
-    ap (λ (k : ℕ). slice_get stack k) place ∙ ap (λ (l : List SegmentView). slice_get l (length n.older)) split ∙ get_behind n.older n.newest (reverse p.segments) in
+    ap (λ (k : ℕ). slice_get stack k) place ∙ ap (λ (l : List SegmentView). slice_get l (length n.older)) split ∙ get-behind n.older n.newest (reverse p.segments) in
     let leaf : IsLeafEntry n.newest value = one n.newest found in
     let under : AreFirst (entries store n.older) = first_of (entries store n.older) (entries store (n.newest ∷ reverse p.segments)) all
     (sym (map-append (entry store) n.older (n.newest ∷ reverse p.segments)) ∙ ap (entries store) (sym split) ∙ arrays) in

@@ -1,18 +1,16 @@
 -- A value that is written to the places that positions select.
-use Rattle.std.proofs.Common.{◌≡◌, ◌≢◌, ◌⊎◌, Ok, Err, ◌==◌, ℕ, zero, suc, ◌+◌, ◌<◌, ◌≤◌, Bool, true, false, not, ◌&&◌, ℤ, pos, ◌+ℤ◌, ◌-ℤ◌, ◌≤ℤ◌, ◌<ℤ◌, inl, inr, List, [], ◌∷◌, ◌++◌, length, map, take, drop, get_or, Option, Some, None, refl, sym, ap, subst, ◌∙◌, arith}
+use Rattle.std.proofs.Common.{◌≡◌, ◌≢◌, ◌⊎◌, ◌==◌, ℕ, zero, suc, ◌<◌, Bool, true, false, not, ◌&&◌, ℤ, pos, ◌-ℤ◌, inl, inr, List, [], ◌∷◌, length, map, get_or, Option, Some, None, refl, sym, ap, subst, ◌∙◌, arith}
 use Rattle.std.specs.Prelude.{All}
-use Rattle.std.specs.List.{AllByRecursion}
 use Rattle.std.proofs.lemmas.Bool.{eqb-true, ne_eqb}
 use Rattle.std.proofs.lemmas.Int.{ints}
 use Rattle.apl_base.specs.declared.cells.Kind.{Kind}
 use Rattle.apl_base.specs.declared.cells.Kind.TheVariants.{Num, Char}
-use Rattle.apl_base.specs.Array.{Array, IsIndex, size_of, place_at}
+use Rattle.apl_base.specs.Array.{Array, size_of, place_at}
 use Rattle.apl_base.specs.Elements.{indices}
-use Rattle.apl_base.specs.Number.{IsCell}
 use Rattle.apl_base.specs.Scalar.{is_same_kind}
 use Rattle.apl_base.specs.Selection.{upward}
 use Rattle.apl_base.proofs.Sizes.{place_at-below}
-use Rattle.array_desc.specs.Desc.{DescView, IsDesc, IsWhole, number}
+use Rattle.array_desc.specs.Desc.{DescView, IsWhole, number}
 use Rattle.array_store.specs.Stores.{StoreView, holders_of, cells_of, kind_of}
 use Rattle.array_store.specs.Counting.{OnlyCounted}
 use Rattle.drag_along.specs.declared.leaves.Leaf.{Leaf}
@@ -21,20 +19,18 @@ use Rattle.e_machine.specs.Forced.{AreRead}
 use Rattle.drag_along.specs.Nodes.{leaf_kind, leaf_shape}
 use Rattle.drag_along.specs.Views.{owner_array}
 use Rattle.leaf_names.specs.Variables.{array_of}
-use Rattle.apl_model.specs.Made.{kinds_differ}
-use Rattle.apl_model.specs.Subscript.{in_axes, positions_shape, positions_index, replaced}
+use Rattle.apl_model.specs.Subscript.{replaced}
 use Rattle.made_picks.specs.declared.tracks.Track.{Track}
-use Rattle.made_picks.specs.Picks.{IsReadable, picked, positions_of, lengths_on}
-use Rattle.made_picks.specs.Tracks.{places_on, named_on, named_along, FitAxes}
-use Rattle.made_picks.proofs.NamedLemmas.{IsFilled, picked-named}
-use Rattle.made_picks.proofs.PositionLemmas.{positions-filled, length-positions}
+use Rattle.made_picks.specs.Picks.{picked, positions_of, lengths_on}
+use Rattle.made_picks.specs.Tracks.{places_on, named_on, named_along}
+use Rattle.made_picks.proofs.NamedLemmas.{picked-named}
+use Rattle.made_picks.proofs.PositionLemmas.{positions-filled}
 use Rattle.made_picks.proofs.GatherLemmas.{size-named, positions_some}
 use Rattle.replacing_steps.specs.Checks.{CanReplace, FitsSelected}
-use Rattle.std.specs.Prelude.{Result, OnOk}
 use Rattle.apl_base.proofs.Elements.{tabulated-count}
 use Rattle.drag_along.specs.Meaning.{leaf_cell}
 use Rattle.made_fns.proofs.Lengths.{array_of-counted}
-use Rattle.replacing_steps.specs.Writes.{written, value_by, places_by, places_in, NamesEach, HasValues, CanReach, owner_leaf, WritesCells}
+use Rattle.replacing_steps.specs.Writes.{written, value_by, places_by, places_in, NamesEach, HasValues, CanReach, WritesCells}
 use Rattle.replacing_steps.proofs.WriteLemmas.{place_for, replaced_is, counted_writes, writes_same}
 
 -- ---- tracks of positions
@@ -151,10 +147,6 @@ selected_all s t u key d o value positions ns tracks all only whole can are same
     ∙ ap (λ (ts : List Track). written (value_by b.cells) 0 (places_by d.strides ts d.base) (cells_of t key)) same
     ∙ ap (λ (zs : List ℤ). written (value_by b.cells) 0 (places_by d.strides tracks d.base) zs) (cells_counted s t key only)
     ∙ selected_written s key d o b positions ns tracks (cells_of s key) whole can are (tabulated-count (leaf_kind value) (leaf_shape value) (leaf_cell s value)))
-
-pub on_ok_more : {A E : Type 0} (r : Result A E) (P Q : Type 0) → (P → Q) → OnOk r P → OnOk r Q
-on_ok_more (Ok a) P Q f p = f p
-on_ok_more (Err e) P Q f p = tt
 
 -- values that are there for all places
 pub has_all : (values : List ℤ) (size count : ℕ) → length values ≡ size → size ≢ 1 → (size ≡ 1) ⊎ (size ≡ count) → HasValues values 0 count

@@ -1,5 +1,5 @@
 -- Variables of which one was written.
-use Rattle.std.proofs.Common.{◌≡◌, ℕ, ◌+◌, ◌<◌, ◌≤◌, Bool, true, false, ◌||◌, ℤ, pos, List, [], ◌∷◌, Option, Some, None, refl, sym, ap, subst, ◌∙◌, arith}
+use Rattle.std.proofs.Common.{◌≡◌, ℕ, ◌≤◌, Bool, true, false, ◌||◌, ℤ, pos, List, [], ◌∷◌, Option, Some, refl, sym, ap, subst, ◌∙◌, arith}
 use Rattle.std.specs.Prelude.{if◌then◌else◌}
 use Rattle.apl_base.specs.declared.cells.Kind.TheVariants.{Num}
 use Rattle.apl_base.specs.Array.{Array}
@@ -8,7 +8,7 @@ use Rattle.drag_along.specs.declared.leaves.Leaf.{Leaf}
 use Rattle.drag_along.specs.declared.leaves.Leaf.TheVariants.{Gen}
 use Rattle.drag_along.specs.Nodes.{named_by_leaf}
 use Rattle.drag_along.specs.Lawful.{IsLawfulLeaf, SameData}
-use Rattle.apl_model.specs.Environment.{Bindings, Environment, is_same_name, declares, bound_in, bound_to, look_up, set_in_frames, declared_in, set_name, mapped, with_origin}
+use Rattle.apl_model.specs.Environment.{Bindings, Environment, is_same_name, declares, bound_to, look_up, set_in_frames, declared_in, set_name, mapped, with_origin}
 use Rattle.apl_model.proofs.Mapped.{set_name_is_mapped}
 use Rattle.leaf_names.specs.Variables.{named_by_option, named_by_names, AreLawfulNames, FillOwners, FillsOwner, array_of, variables_of}
 use Rattle.leaf_names.proofs.CountLemmas.{set_name-named}
@@ -17,12 +17,9 @@ use Rattle.leaf_names.proofs.KeptLemmas.{variables_kept, lawful_kept, filling_ke
 use Rattle.drag_along.specs.Segments.{SegmentView}
 use Rattle.value_stack.specs.Stacks.{named_on}
 use Rattle.replacing_steps.specs.Writes.{WritesCells}
-use lib.Pointwise.{bytes_decides}
+use Rattle.apl_model.proofs.SameNames.{same_self}
 
 -- ---- set twice is set once
-
-same_self : (name : List ℕ) → is_same_name name name ≡ true
-same_self name = (bytes_decides name name).1 refl
 
 module _ {A : Type 0} where
   bound_twice : (bs : Bindings A) (name : List ℕ) (x y : A) → bound_to (bound_to bs name (Some x)) name (Some y) ≡ bound_to bs name (Some y)

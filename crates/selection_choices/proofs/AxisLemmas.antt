@@ -19,11 +19,12 @@ use Rattle.apl_model.specs.Whole.{Answer, rank, count, is_text, error_or}
 use Rattle.apl_model.specs.Made.{is_above_one, less_origin, is_axis_among, are_axes, transposed}
 use Rattle.apl_model_laws.proofs.TestedAxes.{axes_are_tested}
 use Rattle.pending_laws.specs.Selections.{SendsAxes, ListsAxes}
-use Rattle.pending_laws.proofs.AnswerLemmas.{passes_if, not-above_one, le-test}
+use Rattle.pending_laws.proofs.AnswerLemmas.{not-above_one, le-test}
 use Rattle.pending_laws.proofs.AxisLemmas.{transposed_is_selected}
 use Rattle.selection_choices.specs.declared.choices.Choice.TheVariants as choice
 use Rattle.selection_choices.specs.Choices.{Chooses, Errs}
 use Rattle.selection_choices.specs.Left.{Lists}
+use Rattle.apl_model_laws.proofs.Refusals.{passes_if}
 
 -- the numbers counted from 0
 abbrev pub less : ℤ → List ℤ → List ℤ
@@ -127,9 +128,6 @@ one_axis_more o numbers k axes a w is e =
 
 -- ---- the choice
 
-abbrev blank : List ℕ → Array
-blank ns = record { kind = Num; shape = ns; cells = [] }
-
 module _ (o : ℤ) (numbers : List ℤ) (ns : List ℕ) (a : Array) (lists : Lists numbers a) (asked : length numbers ≡ length ns) where
   many : (b : Array) → b.shape ≡ ns → length a.cells ≡ rank b
   many b e = ap (λ (zs : List ℤ). length zs) lists.cells ∙ asked ∙ ap (λ (ms : List ℕ). length ms) (sym e)
@@ -142,8 +140,9 @@ module _ (o : ℤ) (numbers : List ℤ) (ns : List ℕ) (a : Array) (lists : Lis
   pub axes_choose : (by : Selection) → are_axes (less o numbers) ≡ true → SendsAxes (map unsigned_abs (less o numbers)) by → Chooses (transposed o a) ns (choice.Select by)
   axes_choose by test sends =
       let sent : SendsAxes (map unsigned_abs (less_origin o a)) by = subst (λ (zs : List ℤ). SendsAxes (map unsigned_abs (less o zs)) by) (sym lists.cells) sends in
+      let any : Array = record { kind = Num; shape = ns; cells = [] } in
       record {
-        fits = (transposed_is_selected o a (blank ns) by (lists_axes test (blank ns) refl) sent).0;
+        fits = (transposed_is_selected o a any by (lists_axes test any refl) sent).0;
         answer = λ b is. (transposed_is_selected o a b by (lists_axes test b is.shape) sent).1;
       }
 

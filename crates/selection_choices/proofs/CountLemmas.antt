@@ -1,10 +1,10 @@
 -- Counts that are taken or dropped.
 use Rattle.std.proofs.Common.{◌≡◌, ◌==◌, ℕ, zero, suc, ◌+◌, ◌-◌, ◌<◌, ◌≤◌, ◌^◌, Bool, true, false, if◌then◌else◌, ℤ, pos, unsigned_abs, List, [], ◌∷◌, ◌++◌, length, replicate, take, get_or, Ok, refl, sym, ap, subst, ◌∙◌, arith}
 use Rattle.std.specs.List.{AllByRecursion}
-use Rattle.std.proofs.lemmas.List.{take_more, length-replicate, take-replicate}
+use Rattle.std.proofs.lemmas.List.{take_more, take-replicate}
 use Rattle.std.proofs.lemmas.Bool.{eqb-true}
 use Rattle.apl_base.specs.declared.cells.Kind.TheVariants.{Num}
-use Rattle.apl_base.specs.Array.{Array, IsShape, size_of}
+use Rattle.apl_base.specs.Array.{Array, IsShape}
 use Rattle.apl_base.specs.Selection.{CountsFit}
 use Rattle.apl_base.proofs.Booleans.{eqb-same, eqb-other}
 use Rattle.beating.specs.declared.selections.Selection.{Selection}
@@ -18,20 +18,13 @@ use Rattle.pending_laws.proofs.CountLemmas.{taken_scalar_extends, taken_from_its
 use Rattle.selection_choices.specs.declared.choices.Choice.TheVariants as choice
 use Rattle.selection_choices.specs.Choices.{ChoiceFits, chosen, IsOfShape, Chooses, axes_under, choice_from}
 use Rattle.selection_choices.specs.Left.{Lists}
+use Rattle.apl_base.proofs.ShapeLemmas.{no_axes}
 
 -- ---- axes of length 1
-
-ones-size : (n : ℕ) → size_of (replicate n 1) ≡ 1
-ones-size zero = refl
-ones-size (suc n) = omega (arith, ones-size n)
 
 ones-each : (n : ℕ) → AllByRecursion (λ m. m ≤ 2 ^ 40) (replicate n 1)
 ones-each zero = tt
 ones-each (suc n) = (omega arith, ones-each n)
-
--- they make a shape
-pub ones_shape : (n : ℕ) → n ≤ 8 → IsShape (replicate n 1)
-ones_shape n few = record { rank = omega (arith, few, length-replicate {A = ℕ} n 1); each = ones-each n; product = omega (arith, ones-size n) }
 
 -- eight of them begin with so many
 pub first_ones : (k : ℕ) (ones : List ℕ) → k ≤ 8 → ones ≡ 1 ∷ 1 ∷ 1 ∷ 1 ∷ 1 ∷ 1 ∷ 1 ∷ 1 ∷ [] → take k ones ≡ replicate k 1
@@ -104,24 +97,17 @@ widened axes by a b e complete = cases (rank b == 0) refl
     cases true f = ap (selected by) (taken_scalar_extends a b complete (eqb-true (rank b) 0 f) ∙ ap (λ (ns : List ℕ). selected (select.Extend ns) b) (sym e))
     cases false f = ap (selected by) (taken_from_itself a b (some_axis (rank b) f))
 
-none-size : (ns : List ℕ) → length ns ≡ 0 → size_of ns ≡ 1
-none-size [] e = refl
-none-size (n ∷ ns) e = absurd (omega (arith, e))
-
 -- and it may be made
 may_widen : (k : ℕ) (axes : List ℕ) (by : Selection) (ns : List ℕ) → axes ≡ axes_under k ns → Fits by axes → ChoiceFits (choice_from axes by ns) ns
 may_widen k axes by ns e fits = cases (length ns == 0) refl e
   where
     cases : (t : Bool) → (length ns == 0) ≡ t → axes ≡ (if t then replicate k 1 else ns) → ChoiceFits (if t then choice.Widen axes by else choice.Select by) ns
-    cases true f is = (none-size ns (eqb-true (length ns) 0 f), fits)
+    cases true f is = (no_axes ns (eqb-true (length ns) 0 f), fits)
     cases false f is = subst (Fits by) is fits
 
 take_fits : (axes : List ℕ) (numbers : List ℤ) (by : Selection) → TakesCounts numbers by → CountsFit axes numbers → Fits by axes
 take_fits axes numbers (select.Take given) t f = subst (CountsFit axes) (sym t) f
 take_fits axes numbers other t f = absurd t
-
-abbrev blank : List ℕ → Array
-blank ns = record { kind = Num; shape = ns; cells = [] }
 
 module _ (numbers : List ℤ) (ns axes : List ℕ) (by : Selection) (a : Array) (lists : Lists numbers a) (is : axes ≡ axes_under (length numbers) ns) (shape : IsShape axes) (asked : length numbers ≡ length axes) where
   -- for an array of the shape
@@ -155,8 +141,9 @@ module _ (numbers : List ℤ) (ns axes : List ℕ) (by : Selection) (a : Array) 
   pub drops_choose : DropsCounts (capped_counts axes numbers) by → Chooses (drop_from a) ns (choice_from axes by ns)
   drops_choose h = record {
     fits =
+        let any : Array = record { kind = Num; shape = ns; cells = [] } in
         may_widen (length numbers) axes by ns is
-        (subst (Fits by) (sym (of_shape (blank ns) refl)) (dropped_is_selected a (blank ns) by (counts_of (blank ns) refl) (subst IsShape (of_shape (blank ns) refl) shape) (drops (blank ns) refl h)).0);
+        (subst (Fits by) (sym (of_shape any refl)) (dropped_is_selected a any by (counts_of any refl) (subst IsShape (of_shape any refl) shape) (drops any refl h)).0);
     answer =
         answers (drop_from a) (λ b e.
         (dropped_is_selected a b by (counts_of b e) (subst IsShape (of_shape b e) shape) (drops b e h)).1);

@@ -7,7 +7,6 @@ use denote.Enum.Bare.{sameb}
 use Rattle.apl_base.specs.contracts.cells.Kind.{the_type}
 use Rattle.apl_base.specs.declared.cells.Kind.{Kind}
 use Rattle.apl_base.specs.declared.cells.Kind.TheVariants.{Num, Char}
-use Rattle.apl_base.specs.declared.faults.ErrorKind.{ErrorKind}
 use Rattle.apl_base.specs.declared.faults.ErrorKind.TheVariants as error
 use Rattle.apl_base.specs.Array.{Array, size_of}
 use Rattle.apl_base.specs.Selection.{drop_shape}
@@ -15,7 +14,7 @@ use Rattle.apl_base.proofs.Booleans.{eqb-same, eqb-other}
 use Rattle.apl_model.specs.declared.functions.DyaFn.{DyaFn}
 use Rattle.apl_model.specs.declared.functions.DyaFn.TheVariants as dyadic_fn
 use Rattle.apl_model.specs.Evaluation.{dyadic_value}
-use Rattle.apl_model.specs.Whole.{Answer, rank, count, is_char, is_text, is_empty, is_shape, error_if, error_or}
+use Rattle.apl_model.specs.Whole.{rank, count, is_char, is_text, is_empty, is_shape}
 use Rattle.apl_model.specs.Made.{is_above_one, taken_shape, are_axes, less_origin}
 use Rattle.apl_base.proofs.Elements.{tabulated-count}
 use Rattle.array_store.specs.Stores.{StoreView}
@@ -24,22 +23,17 @@ use Rattle.drag_along.specs.Nodes.{leaf_kind, leaf_shape}
 use Rattle.drag_along.specs.Meaning.{leaf_cell}
 use Rattle.leaf_names.specs.Variables.{array_of}
 use Rattle.pending_laws.specs.Selections.{IsNumberList}
-use Rattle.pending_laws.proofs.AnswerLemmas.{passes_if, not-above_one}
+use Rattle.pending_laws.proofs.AnswerLemmas.{not-above_one}
 use Rattle.selection_choices.specs.Choices.{SelectsTwo, Errs}
 use Rattle.selection_choices.specs.Left.{asked_for}
-
-refused_if : (e : ErrorKind) (t : Bool) (next : Answer) → t ≡ true → error_if e t next ≡ Err e
-refused_if e t next h = ap (λ (b : Bool). error_if e b next) h
-
-refused_or : (e : ErrorKind) (t : Bool) (make : Unit {0} → Answer) → t ≡ true → error_or e t make ≡ Err e
-refused_or e t make h = ap (λ (b : Bool). error_or e b make) h
+use Rattle.apl_model_laws.proofs.Refusals.{fails_if, fails_or, passes_if}
 
 -- ---- RANK ERROR
 
 pub refused_rank : (o : ℤ) (f : DyaFn) (a b : Array) → SelectsTwo f → 1 < rank a → dyadic_value o f a b ≡ Err error.Rank
-refused_rank o dyadic_fn.Transpose a b h r = refused_if error.Rank (is_above_one a) _ (le-leb 2 (rank a) r)
-refused_rank o dyadic_fn.Take a b h r = refused_if error.Rank (is_above_one a) _ (le-leb 2 (rank a) r)
-refused_rank o dyadic_fn.Skip a b h r = refused_if error.Rank (is_above_one a) _ (le-leb 2 (rank a) r)
+refused_rank o dyadic_fn.Transpose a b h r = fails_if error.Rank (is_above_one a) _ (le-leb 2 (rank a) r)
+refused_rank o dyadic_fn.Take a b h r = fails_if error.Rank (is_above_one a) _ (le-leb 2 (rank a) r)
+refused_rank o dyadic_fn.Skip a b h r = fails_if error.Rank (is_above_one a) _ (le-leb 2 (rank a) r)
 refused_rank o (dyadic_fn.Scalar f) a b h r = absurd h
 refused_rank o dyadic_fn.Reshape a b h r = absurd h
 refused_rank o dyadic_fn.Catenate a b h r = absurd h
@@ -61,9 +55,9 @@ differ x y h = by (x == y) refl
     by false e = refl
 
 pub refused_length : (o : ℤ) (f : DyaFn) (a b : Array) → SelectsTwo f → rank a ≤ 1 → count a ≢ asked_for f (count a) b.shape → dyadic_value o f a b ≡ Err error.Length
-refused_length o dyadic_fn.Transpose a b h r n = passes_if error.Rank (is_above_one a) _ (not-above_one a r) ∙ refused_if error.Length (not (count a == rank b)) _ (differ (count a) (rank b) n)
-refused_length o dyadic_fn.Take a b h r n = passes_if error.Rank (is_above_one a) _ (not-above_one a r) ∙ refused_if error.Length (not (count a == length (taken_shape a b))) _ (differ (count a) (length (taken_shape a b)) n)
-refused_length o dyadic_fn.Skip a b h r n = passes_if error.Rank (is_above_one a) _ (not-above_one a r) ∙ refused_if error.Length (not (count a == length (taken_shape a b))) _ (differ (count a) (length (taken_shape a b)) n)
+refused_length o dyadic_fn.Transpose a b h r n = passes_if error.Rank (is_above_one a) _ (not-above_one a r) ∙ fails_if error.Length (not (count a == rank b)) _ (differ (count a) (rank b) n)
+refused_length o dyadic_fn.Take a b h r n = passes_if error.Rank (is_above_one a) _ (not-above_one a r) ∙ fails_if error.Length (not (count a == length (taken_shape a b))) _ (differ (count a) (length (taken_shape a b)) n)
+refused_length o dyadic_fn.Skip a b h r n = passes_if error.Rank (is_above_one a) _ (not-above_one a r) ∙ fails_if error.Length (not (count a == length (taken_shape a b))) _ (differ (count a) (length (taken_shape a b)) n)
 refused_length o (dyadic_fn.Scalar f) a b h r n = absurd h
 refused_length o dyadic_fn.Reshape a b h r n = absurd h
 refused_length o dyadic_fn.Catenate a b h r n = absurd h
@@ -100,13 +94,13 @@ either t u h = ap (λ (b : Bool). b || u) h
 pub refused_domain : (o : ℤ) (f : DyaFn) (a b : Array) → SelectsTwo f → rank a ≤ 1 → count a ≡ asked_for f (count a) b.shape → is_text a ≡ true → dyadic_value o f a b ≡ Err error.Domain
 refused_domain o dyadic_fn.Transpose a b h r n t =
     passes_if error.Rank (is_above_one a) _ (not-above_one a r) ∙ passes_if error.Length (not (count a == rank b)) _ (alike (count a) (rank b) n)
-    ∙ refused_or error.Domain (is_text a || not (are_axes (less_origin o a))) _ (either (is_text a) (not (are_axes (less_origin o a))) t)
+    ∙ fails_or error.Domain (is_text a || not (are_axes (less_origin o a))) _ (either (is_text a) (not (are_axes (less_origin o a))) t)
 refused_domain o dyadic_fn.Take a b h r n t =
     passes_if error.Rank (is_above_one a) _ (not-above_one a r) ∙ passes_if error.Length (not (count a == length (taken_shape a b))) _ (alike (count a) (length (taken_shape a b)) n)
-    ∙ refused_if error.Domain (is_text a) _ t
+    ∙ fails_if error.Domain (is_text a) _ t
 refused_domain o dyadic_fn.Skip a b h r n t =
     passes_if error.Rank (is_above_one a) _ (not-above_one a r) ∙ passes_if error.Length (not (count a == length (taken_shape a b))) _ (alike (count a) (length (taken_shape a b)) n)
-    ∙ refused_if error.Domain (is_text a) _ t
+    ∙ fails_if error.Domain (is_text a) _ t
 refused_domain o (dyadic_fn.Scalar f) a b h r n t = absurd h
 refused_domain o dyadic_fn.Reshape a b h r n t = absurd h
 refused_domain o dyadic_fn.Catenate a b h r n t = absurd h
@@ -135,11 +129,11 @@ refused_limit o dyadic_fn.Transpose a b h r n t c few many = absurd (omega (arit
 refused_limit o dyadic_fn.Take a b h r n t c few many =
     passes_if error.Rank (is_above_one a) _ (not-above_one a r) ∙ passes_if error.Length (not (count a == length (taken_shape a b))) _ (alike (count a) (length (taken_shape a b)) n)
     ∙ passes_if error.Domain (is_text a) _ t
-    ∙ refused_or error.Limit (not (is_shape (map unsigned_abs a.cells))) _ (no_shape (map unsigned_abs a.cells) (omega (arith, length-map a.cells unsigned_abs, c, many)))
+    ∙ fails_or error.Limit (not (is_shape (map unsigned_abs a.cells))) _ (no_shape (map unsigned_abs a.cells) (omega (arith, length-map a.cells unsigned_abs, c, many)))
 refused_limit o dyadic_fn.Skip a b h r n t c few many =
     passes_if error.Rank (is_above_one a) _ (not-above_one a r) ∙ passes_if error.Length (not (count a == length (taken_shape a b))) _ (alike (count a) (length (taken_shape a b)) n)
     ∙ passes_if error.Domain (is_text a) _ t
-    ∙ refused_or error.Limit (not (is_shape (drop_shape (taken_shape a b) a.cells))) _ (no_shape (drop_shape (taken_shape a b) a.cells) (omega (arith, drops-length (taken_shape a b) a.cells (sym n ∙ sym c), c, many)))
+    ∙ fails_or error.Limit (not (is_shape (drop_shape (taken_shape a b) a.cells))) _ (no_shape (drop_shape (taken_shape a b) a.cells) (omega (arith, drops-length (taken_shape a b) a.cells (sym n ∙ sym c), c, many)))
 refused_limit o (dyadic_fn.Scalar f) a b h r n t c few many = absurd h
 refused_limit o dyadic_fn.Reshape a b h r n t c few many = absurd h
 refused_limit o dyadic_fn.Catenate a b h r n t c few many = absurd h

@@ -57,16 +57,12 @@ axis_missing o k ns h b is =
 
 -- ---- the axes in reverse order
 
--- any array of a shape
-abbrev blank : List ℕ → Array
-blank ns = record { kind = Num; shape = ns; cells = [] }
-
 sent : (ns : List ℕ) (by : Selection) (b : Array) → b.shape ≡ ns → SendsAxes (reverse (upward 0 (length ns))) by → SendsAxes (reverse (upward 0 (rank b))) by
 sent ns by b is h = subst (λ (ms : List ℕ). SendsAxes (reverse (upward 0 (length ms))) by) (sym is) h
 
 pub axes_flipped : (ns : List ℕ) (by : Selection) → SendsAxes (reverse (upward 0 (length ns))) by → Chooses flipped ns (choice.Select by)
 axes_flipped ns by h = record {
-  fits = (flipped_is_selected (blank ns) by h).0;
+  fits = (flipped_is_selected (record { kind = Num; shape = ns; cells = [] }) by h).0;
   answer = λ b is. (flipped_is_selected b by (sent ns by b is.shape h)).1;
 }
 

@@ -1,4 +1,4 @@
-use Rattle.calling_steps.proofs.OutputLemmas.{keeps_then}
+use Rattle.machine_state.proofs.KeepsLemmas.{keeps_then}
 use Rattle.calling_steps.proofs.branching.branch.Goals as goal
 
 pub branch_computed-requires-clause-lawful : goal.branch_computed-requires-clause-lawful

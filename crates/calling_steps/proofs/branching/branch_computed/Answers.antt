@@ -1,8 +1,8 @@
 use Rattle.std.proofs.Common.{refl, ◌∙◌}
 use Rattle.machine_state.specs.declared.machines.Machine.{Machine}
-use Rattle.machine_state.proofs.KeepsLemmas.{keeps}
+use Rattle.machine_state.proofs.KeepsLemmas.{keeps, keeps_then}
 use Rattle.calling_steps.proofs.ReadyLemmas.{counted_keeps, counted_moves, holds_entries, newest_leaf_lawful, newest_means}
-use Rattle.calling_steps.proofs.OutputLemmas.{keeps_then, branched}
+use Rattle.calling_steps.proofs.OutputLemmas.{branched}
 use Rattle.calling_steps.proofs.BranchLemmas.{branch_halts}
 use Rattle.calling_steps.proofs.branching.branch_computed.Goals as goal
 

@@ -1,11 +1,14 @@
-use Rattle.std.proofs.Common.{refl}
+use Rattle.std.proofs.Common.{arith, refl}
 use Rattle.machine_state.specs.declared.machines.Machine.{Machine}
 use Rattle.calling_steps.proofs.ReadyLemmas.{holds_entries}
-use Rattle.calling_steps.proofs.LeaveLemmas.{frame_gone_too, no_entry_gone, go_beside, entry_gone_too}
+use Rattle.calling_steps.proofs.LeaveLemmas.{entry_gone_too, frame_gone_too, frame_is_there, go_beside, no_entry_gone}
 use Rattle.calling_steps.proofs.ends.end_all.Goals as goal
 
-pub unwind_one-requires-clause-lawful : goal.unwind_one-requires-clause-lawful
-unwind_one-requires-clause-lawful c = (c.requires.lawful.0, c.loop.invariant.unwinds.lawful c.requires.lawful.0 c.requires.lawful.1)
+pub unwind_one-requires : goal.unwind_one-requires
+unwind_one-requires c = record {
+  frame = frame_is_there c.args.machine.now c.loop.machine c.loop.counter _ c.loop-test.true c.loop.invariant;
+  lawful = (c.requires.lawful.0, c.loop.invariant.unwinds.lawful c.requires.lawful.0 c.requires.lawful.1);
+}
 
 pub loop-preserved : goal.loop-preserved
 loop-preserved c = frame_gone_too c.args.machine.now c.loop.machine c.unwind_one.new.machine c.loop.counter _ c.loop-test.true c.loop.invariant c.unwind_one.ensures.unwinds c.unwind_one.ensures.run
@@ -13,11 +16,12 @@ loop-preserved c = frame_gone_too c.args.machine.now c.loop.machine c.unwind_one
 pub loop-2-init : goal.loop-2-init
 loop-2-init c = no_entry_gone c.args.machine.now c.loop.machine c.loop.counter _ _ c.loop-test.false c.loop.invariant c.len-end.ensures.value
 
-pub drop_newest-requires-clause-lawful : goal.drop_newest-requires-clause-lawful
-drop_newest-requires-clause-lawful c = (go_beside c.args.machine.now c.loop-2.machine _ _ c.loop-2.invariant).1.desk.entries
-
-pub drop_newest-requires-clause-held : goal.drop_newest-requires-clause-held
-drop_newest-requires-clause-held c = holds_entries c.loop-2.machine (go_beside c.args.machine.now c.loop-2.machine _ _ c.loop-2.invariant)
+pub drop_newest-requires : goal.drop_newest-requires
+drop_newest-requires c = record {
+  operand = omega (arith, c.loop-2.invariant.all, c.loop-2-test.true);
+  lawful = (go_beside c.args.machine.now c.loop-2.machine _ _ c.loop-2.invariant).1.desk.entries;
+  held = holds_entries c.loop-2.machine (go_beside c.args.machine.now c.loop-2.machine _ _ c.loop-2.invariant);
+}
 
 pub loop-2-preserved : goal.loop-2-preserved
 loop-2-preserved c =

@@ -2,7 +2,7 @@ use Rattle.std.proofs.Common.{arith}
 use Rattle.drag_along.specs.Lawful.{IsLawfulLeaf}
 use Rattle.leaf_names.proofs.EachLemmas.{look_up-each}
 use Rattle.name_table.proofs.CountedLemmas.{named_at_most}
-use Rattle.machine_state.proofs.NameLemmas.{few_named}
+use Rattle.value_stack.proofs.NewestLemmas.{few_named}
 use Rattle.calling_steps.proofs.leaving.push_bound.Goals as goal
 
 pub push_held-requires-clause-leaf : goal.push_held-requires-clause-leaf

@@ -1,16 +1,17 @@
 use Rattle.std.proofs.Common.{refl, arith}
 use Rattle.machine_state.specs.declared.machines.Machine.{Machine}
-use Rattle.machine_state.proofs.KeepsLemmas.{keeps}
+use Rattle.machine_state.proofs.KeepsLemmas.{keeps, keeps_then}
 use Rattle.calling_steps.proofs.ReadyLemmas.{holds_entries}
-use Rattle.calling_steps.proofs.OutputLemmas.{keeps_then, printed}
+use Rattle.calling_steps.proofs.OutputLemmas.{printed}
 use Rattle.machine_state.specs.Steps.{pending}
 use Rattle.calling_steps.proofs.outputs.print.Goals as goal
 
-pub drop_newest-requires-clause-lawful : goal.drop_newest-requires-clause-lawful
-drop_newest-requires-clause-lawful g c = (c.show.ensures.keeps.lawful c.requires.lawful.0 c.requires.lawful.1).desk.entries
-
-pub drop_newest-requires-clause-held : goal.drop_newest-requires-clause-held
-drop_newest-requires-clause-held g c = holds_entries c.show.new.machine (c.requires.lawful.0, c.show.ensures.keeps.lawful c.requires.lawful.0 c.requires.lawful.1)
+pub drop_newest-requires : goal.drop_newest-requires
+drop_newest-requires g c = record {
+  operand = omega (arith, c.requires.operand, c.show.ensures.count);
+  lawful = (c.show.ensures.keeps.lawful c.requires.lawful.0 c.requires.lawful.1).desk.entries;
+  held = holds_entries c.show.new.machine (c.requires.lawful.0, c.show.ensures.keeps.lawful c.requires.lawful.0 c.requires.lawful.1);
+}
 
 pub returns-clause-prints : goal.returns-clause-prints
 returns-clause-prints g c =

@@ -1,4 +1,4 @@
-use Rattle.calling_steps.proofs.OutputLemmas.{keeps_then}
+use Rattle.machine_state.proofs.KeepsLemmas.{keeps_then}
 use Rattle.calling_steps.proofs.outputs.show.Goals as goal
 
 pub show_newest-requires-clause-lawful : goal.show_newest-requires-clause-lawful

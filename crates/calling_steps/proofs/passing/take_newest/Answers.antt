@@ -4,8 +4,8 @@ use Rattle.std.proofs.lemmas.Result.{IfOk-weaker}
 use Rattle.machine_state.specs.declared.machines.Machine.{Machine}
 use Rattle.machine_state.specs.Steps.{pending}
 use Rattle.machine_state.proofs.KeepsLemmas.{keeps}
-use Rattle.machine_state.proofs.GivesLemmas.{safe_at}
 use Rattle.calling_steps.proofs.PassLemmas.{arrays_stop, taken}
+use Rattle.value_stack.proofs.NewestLemmas.{safe_at}
 use Rattle.calling_steps.proofs.passing.take_newest.Goals as goal
 
 pub returns-in-Err-clause-stopped : goal.returns-in-Err-clause-stopped

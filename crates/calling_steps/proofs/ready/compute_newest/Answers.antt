@@ -1,9 +1,8 @@
 use Rattle.std.proofs.Common.{refl, ◌∙◌}
 use Rattle.alias_force.proofs.SafeLemmas.{safe_means}
 use Rattle.machine_state.specs.declared.machines.Machine.{Machine}
-use Rattle.machine_state.proofs.KeepsLemmas.{keeps}
+use Rattle.machine_state.proofs.KeepsLemmas.{keeps, keeps_then}
 use Rattle.calling_steps.proofs.ReadyLemmas.{on_ok_so}
-use Rattle.calling_steps.proofs.OutputLemmas.{keeps_then}
 use Rattle.calling_steps.proofs.ready.compute_newest.Goals as goal
 
 pub returns-in_err-settle_entries-clause-keeps : goal.returns-in_err-settle_entries-clause-keeps

@@ -4,15 +4,13 @@ use Rattle.pending_steps.proofs.StepLemmas.{older_lawful}
 use Rattle.indexing_steps.proofs.FallLemmas.{mid_held, mid_long, dropped_below}
 use Rattle.indexing_steps.proofs.dropping.drop_below.Goals as goal
 
-pub drop_many-requires-clause-operands : goal.drop_many-requires-clause-operands
-drop_many-requires-clause-operands c =
-    omega (arith, c.requires.operands, mid_long c.args.stack.now c.pop.new.self c.in-Some.newest c.in-Some.ensures.taken)
-
-pub drop_many-requires-clause-lawful : goal.drop_many-requires-clause-lawful
-drop_many-requires-clause-lawful c = older_lawful c.args.store.now c.args.stack.now c.pop.new.self c.in-Some.newest c.in-Some.ensures.taken c.requires.lawful
-
-pub drop_many-requires-clause-held : goal.drop_many-requires-clause-held
-drop_many-requires-clause-held c = mid_held c.args.store.now c.args.stack.now c.pop.new.self c.in-Some.newest c.in-Some.ensures.taken c.requires.held
+pub drop_many-requires : goal.drop_many-requires
+drop_many-requires c = record {
+  operands =
+      omega (arith, c.requires.operands, mid_long c.args.stack.now c.pop.new.self c.in-Some.newest c.in-Some.ensures.taken);
+  lawful = older_lawful c.args.store.now c.args.stack.now c.pop.new.self c.in-Some.newest c.in-Some.ensures.taken c.requires.lawful;
+  held = mid_held c.args.store.now c.args.stack.now c.pop.new.self c.in-Some.newest c.in-Some.ensures.taken c.requires.held;
+}
 
 pub returns : goal.returns
 returns c = record {

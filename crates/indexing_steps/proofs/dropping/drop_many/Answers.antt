@@ -1,6 +1,7 @@
 use Rattle.std.proofs.Common.{arith}
 use Rattle.drag_along.specs.Meaning.{entry}
-use Rattle.indexing_steps.proofs.FallLemmas.{HasNewest, has_newest, newest_at, drops_none, drops_more, drop_left, moves_hold}
+use Rattle.indexing_steps.proofs.FallLemmas.{HasNewest, has_newest, drops_none, drops_more, drop_left, moves_hold}
+use Rattle.value_stack.proofs.NewestLemmas.{newest_at}
 use Rattle.indexing_steps.proofs.dropping.drop_many.Goals as goal
 
 pub loop-at-init : goal.loop-at-init

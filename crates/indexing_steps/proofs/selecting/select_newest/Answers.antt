@@ -1,6 +1,7 @@
 use Rattle.std.proofs.lemmas.Result.{IfOk-weaker}
 use Rattle.pending_steps.proofs.StepLemmas.{newest_lawful}
-use Rattle.indexing_steps.proofs.FallLemmas.{newest_selected, newest_at}
+use Rattle.indexing_steps.proofs.FallLemmas.{newest_selected}
+use Rattle.value_stack.proofs.NewestLemmas.{newest_at}
 use Rattle.indexing_steps.proofs.selecting.select_newest.Goals as goal
 
 pub returns-clause-selects : goal.returns-clause-selects

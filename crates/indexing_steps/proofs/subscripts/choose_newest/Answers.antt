@@ -8,9 +8,10 @@ use Rattle.drag_along.specs.Segments.{SegmentView}
 use Rattle.value_stack.proofs.EntriesLemmas.{entry_is_lawful}
 use Rattle.indexing_steps.specs.Choices.{IsChoice}
 use Rattle.indexing_steps.specs.Operands.{arrays_of}
-use Rattle.indexing_steps.proofs.FallLemmas.{safe_means, segment_at}
+use Rattle.indexing_steps.proofs.FallLemmas.{segment_at}
 use Rattle.indexing_steps.proofs.OperandLemmas.{positions_lawful}
 use Rattle.indexing_steps.proofs.ChosenLemmas.{chosen}
+use Rattle.pending_steps.proofs.ArrayLemmas.{safe_entry}
 use Rattle.indexing_steps.proofs.subscripts.choose_newest.Goals as goal
 
 pub choose-requires-clause-lawful : goal.choose-requires-clause-lawful
@@ -34,6 +35,6 @@ returns-clause-chosen c =
     (subst (λ (xs : List (Option Leaf)). IsChoice c.args.origin c.behind-stack.inside.shape (arrays_of store xs) c.choose.result) c.deref.ensures.value
     (subst (λ (o : ℤ). IsChoice o c.behind-stack.inside.shape (arrays_of store c.deref.result.now) c.choose.result) (to_z-of_z w128 c.args.origin c.ranges.origin) c.choose.ensures.choice)) in
     chosen c.args.origin c.args.mask.now store stack end leaves s c.choose.result c.in_ok-positions.ensures.positions long at
-    (safe_means store s (segment_at stack end s c.len-newest.ensures.segments at) (entry_is_lawful store stack end s c.requires.lawful at)
+    (safe_entry store s (segment_at stack end s c.len-newest.ensures.segments at) (entry_is_lawful store stack end s c.requires.lawful at)
     (c.requires.safe s (ap (λ (k : ℕ). slice_get stack k) (sym place) ∙ at)))
     choice

@@ -1,6 +1,6 @@
 use Rattle.std.proofs.Common.{◌≡◌, ◌-◌, length, sym, ◌∙◌, arith}
-use Rattle.indexing_steps.proofs.FallLemmas.{safe_at}
 use Rattle.indexing_steps.proofs.OperandLemmas.{computed_stays}
+use Rattle.value_stack.proofs.NewestLemmas.{safe_at}
 use Rattle.indexing_steps.proofs.subscripts.make_ready.Goals as goal
 
 pub returns-in_ok-settle_entries-clause-computed : goal.returns-in_ok-settle_entries-clause-computed

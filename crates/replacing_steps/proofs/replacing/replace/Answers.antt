@@ -1,9 +1,9 @@
 use Rattle.std.proofs.Common.{refl}
 use Rattle.std.proofs.lemmas.Result.{IfOk-weaker, IfErr-weaker}
 use Rattle.machine_state.specs.declared.machines.Machine.{Machine}
-use Rattle.machine_state.proofs.KeepsLemmas.{keeps}
+use Rattle.machine_state.proofs.KeepsLemmas.{keeps, keeps_then}
 use Rattle.machine_state.proofs.GivesLemmas.{on_error_so}
-use Rattle.replacing_steps.proofs.FreeLemmas.{keeps_then, on_error_then}
+use Rattle.replacing_steps.proofs.FreeLemmas.{on_error_then}
 use Rattle.replacing_steps.proofs.MachineLemmas.{replaces_from, halted_from}
 use Rattle.replacing_steps.proofs.replacing.replace.Goals as goal
 

@@ -17,20 +17,19 @@ use Rattle.replacing_steps.proofs.WriteLemmas.{reached_written, cells_written, w
 use Rattle.replacing_steps.proofs.WalkLemmas.{row_places, row_size, wrote_none, wrote_more, wrote_all, has_part, value_lawful, names_first, names_rest, inner_count, no_tracks, one_written}
 use Rattle.replacing_steps.proofs.walks.+write_along.Goals as goal
 
-pub write_number-requires-clause-low : goal.write_number-requires-clause-low
-write_number-requires-clause-low t c =
-    rw (to_z-of_z w128 c.args.at c.ranges.at) (reached_at c.args.store.now (owner_leaf c.args.owner) (drop c.args.axis c.args.desc.now.shape) (drop c.args.axis c.args.desc.now.strides) c.args.at c.requires.reached c.requires.some).cell.1
-
-pub write_number-requires-clause-high : goal.write_number-requires-clause-high
-write_number-requires-clause-high t c =
-    rw (to_z-of_z w128 c.args.at c.ranges.at) (reached_at c.args.store.now (owner_leaf c.args.owner) (drop c.args.axis c.args.desc.now.shape) (drop c.args.axis c.args.desc.now.strides) c.args.at c.requires.reached c.requires.some).cell.2
-
-pub write_number-requires-clause-lawful : goal.write_number-requires-clause-lawful
-write_number-requires-clause-lawful t c =
-    let value = to_z-of_z w128 c.value_of.result (record { sfits = c.value_of.type_inv }) in
-    let count : places_in c.args.tracks.now ≡ 1 = ap places_in (no_tracks c.args.tracks.now c.in_default.ensures.cases) in
-    let has = has_part c.args.values.now c.args.first (places_in c.args.tracks.now) c.args.first 1 c.requires.values (omega (arith, count)) in
-    rw value (subst (IsCell (kind_of c.args.store.now c.args.owner)) (sym c.value_of.ensures) (value_lawful (kind_of c.args.store.now c.args.owner) c.args.values.now c.args.first c.requires.kind has))
+pub write_number-requires : goal.write_number-requires
+write_number-requires t c = record {
+  alone = c.requires.alone;
+  low =
+      rw (to_z-of_z w128 c.args.at c.ranges.at) (reached_at c.args.store.now (owner_leaf c.args.owner) (drop c.args.axis c.args.desc.now.shape) (drop c.args.axis c.args.desc.now.strides) c.args.at c.requires.reached c.requires.some).cell.1;
+  high =
+      rw (to_z-of_z w128 c.args.at c.ranges.at) (reached_at c.args.store.now (owner_leaf c.args.owner) (drop c.args.axis c.args.desc.now.shape) (drop c.args.axis c.args.desc.now.strides) c.args.at c.requires.reached c.requires.some).cell.2;
+  lawful =
+      let value = to_z-of_z w128 c.value_of.result (record { sfits = c.value_of.type_inv }) in
+      let count : places_in c.args.tracks.now ≡ 1 = ap places_in (no_tracks c.args.tracks.now c.in_default.ensures.cases) in
+      let has = has_part c.args.values.now c.args.first (places_in c.args.tracks.now) c.args.first 1 c.requires.values (omega (arith, count)) in
+      rw value (subst (IsCell (kind_of c.args.store.now c.args.owner)) (sym c.value_of.ensures) (value_lawful (kind_of c.args.store.now c.args.owner) c.args.values.now c.args.first c.requires.kind has));
+}
 
 pub returns-in_default-clause-written : goal.returns-in_default-clause-written
 returns-in_default-clause-written t c =

@@ -1,15 +1,15 @@
 use mir.Syntax.{w128}
-use Rattle.std.proofs.Common.{◌≡◌, ◌∙◌, ◌<◌, ◌≤◌, ◌^◌, ℕ, map, sym, ap, subst, arith, to_z-of_z}
+use Rattle.std.proofs.Common.{◌∙◌, ◌<◌, sym, ap, subst, arith, to_z-of_z}
 use Rattle.std.specs.Prelude.{All}
 use Rattle.apl_base.specs.Array.{size_of}
 use Rattle.array_desc.specs.Desc.{DescView}
 use Rattle.drag_along.specs.Views.{owner_array}
 use Rattle.leaf_names.specs.Variables.{array_of}
-use Rattle.made_picks.specs.declared.tracks.Track.{Track}
 use Rattle.made_picks.specs.Picks.{positions_of}
-use Rattle.made_picks.specs.Tracks.{places_on, named_along}
+use Rattle.made_picks.specs.Tracks.{named_along}
 use Rattle.replacing_steps.specs.Writes.{NamesEach, places_in}
-use Rattle.replacing_steps.proofs.SelectLemmas.{array_some, selected_size, value_size, same_kind, named_each, kind_counted, selected_all, on_ok_more}
+use Rattle.replacing_steps.proofs.SelectLemmas.{array_some, selected_size, value_size, same_kind, named_each, kind_counted, selected_all}
+use Rattle.std.proofs.lemmas.Result.{on_ok_weaker}
 use Rattle.replacing_steps.proofs.writes.write_selected.Goals as goal
 
 pub write_value-requires-clause-some : goal.write_value-requires-clause-some
@@ -47,5 +47,5 @@ pub returns-clause-written : goal.returns-clause-written
 returns-clause-written c =
     let places = rw (to_z-of_z {w = w128} {z = c.args.origin} c.ranges.origin) at c.in_ok-tracks.ensures.places in
     let placed = places ∙ ap (λ (d : DescView). named_along c.args.origin d.shape (positions_of c.args.store.now c.args.positions.now)) c.desc.view_is in
-    on_ok_more c.write_value.result _ _ (selected_all c.args.store.now c.tracks_of.new.store c.write_value.new.store c.args.owner c.args.desc.now c.args.origin c.args.value.now c.args.positions.now c.args.selected.now c.in_ok-tracks.tracks.items c.as_slice.result.now
+    on_ok_weaker c.write_value.result (selected_all c.args.store.now c.tracks_of.new.store c.write_value.new.store c.args.owner c.args.desc.now c.args.origin c.args.value.now c.args.positions.now c.args.selected.now c.in_ok-tracks.tracks.items c.as_slice.result.now
     c.in_ok-tracks.ensures.counted.only c.requires.whole c.requires.can placed c.as_slice.ensures.value) c.write_value.ensures.written

@@ -1,7 +1,8 @@
 use Rattle.std.proofs.Common.{◌≡◌, ◌≤◌, length, refl, sym, subst, ◌∙◌, arith}
 use Rattle.std.proofs.lemmas.Bool.{false≢true}
 use Rattle.apl_base.specs.Array.{IsShape}
-use Rattle.selection_choices.proofs.CountLemmas.{ones_shape, first_ones, under_scalar}
+use Rattle.selection_choices.proofs.CountLemmas.{first_ones, under_scalar}
+use Rattle.apl_base.proofs.ShapeLemmas.{ones_shape}
 use Rattle.selection_choices.proofs.counts.axes_of.Goals as goal
 
 pub unreachable-requires : goal.unreachable-requires

@@ -5,7 +5,8 @@ use Rattle.array_store.specs.Follows.{both}
 use Rattle.drag_along.specs.Nodes.{named_by_leaf}
 use Rattle.machine_state.specs.declared.machines.Machine.{Machine}
 use Rattle.machine_state.proofs.KeepsLemmas.{keeps}
-use Rattle.machine_state.proofs.GivesLemmas.{taken_in_hand, assigned, safe_at}
+use Rattle.machine_state.proofs.GivesLemmas.{taken_in_hand, assigned}
+use Rattle.value_stack.proofs.NewestLemmas.{safe_at}
 use Rattle.machine_state.proofs.machines.Machine.assign_newest.Goals as goal
 
 pub take_leaf-requires-clause-safe : goal.take_leaf-requires-clause-safe

@@ -3,7 +3,8 @@ use Rattle.drag_along.specs.Lawful.{IsLawfulLeaf}
 use Rattle.leaf_names.proofs.EachLemmas.{look_up-each}
 use Rattle.name_table.proofs.CountedLemmas.{named_at_most}
 use Rattle.machine_state.proofs.KeepsLemmas.{keeps}
-use Rattle.machine_state.proofs.NameLemmas.{few_named, name_step, name_halts}
+use Rattle.machine_state.proofs.NameLemmas.{name_step, name_halts}
+use Rattle.value_stack.proofs.NewestLemmas.{few_named}
 use Rattle.machine_state.proofs.machines.Machine.name.Goals as goal
 
 pub push_held-requires-clause-leaf : goal.push_held-requires-clause-leaf

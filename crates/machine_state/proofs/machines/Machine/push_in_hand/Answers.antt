@@ -1,7 +1,7 @@
 use Rattle.std.proofs.Common.{arith}
 use Rattle.name_table.proofs.CountedLemmas.{named_at_most}
-use Rattle.machine_state.proofs.NameLemmas.{few_named}
-use Rattle.machine_state.proofs.GivesLemmas.{few_leaf}
+use Rattle.value_stack.proofs.NewestLemmas.{few_named}
+use Rattle.drag_along.proofs.OneLeafLemmas.{leaf_once}
 use Rattle.machine_state.proofs.machines.Machine.push_in_hand.Goals as goal
 
 pub push_held-requires-clause-holders : goal.push_held-requires-clause-holders
@@ -11,7 +11,7 @@ push_held-requires-clause-holders c = λ key named.
       arith,
       few.2.desk.held key,
       few.1 key,
-      few_leaf c.args.leaf.now key,
+      leaf_once c.args.leaf.now key,
       few_named c.args.self.now.stack key c.len-count.ensures.segments,
       c.len-count.ensures.value,
       c.len-count.type_inv,
