@@ -15,10 +15,11 @@ use Rattle.apl_model.specs.Frames.{result_in, with_call, with_ended}
 use Rattle.apl_model.specs.Immediate.{Ending, well, reported, out_of_turns, Run, Step, statement_step, command_step, after_statement, definitions_of, obeyed, of_states, report, routine, run_steps, step_of}
 use Rattle.apl_model.specs.Outcome.{Outcome, done, fails, spent, and_then, Flow, onwards}
 use Rattle.apl_model.specs.Printed.{array_text}
-use Rattle.apl_model.specs.Tree.{Definition, Item, statement_item, command_item, definition_item}
+use Rattle.apl_model.specs.Tree.{Definition}
 use Rattle.apl_model.specs.Whole.{Answer, is_empty, is_text}
 use Rattle.apl_model.proofs.Agreement.{option-same, options-same, runs_over_values_agree}
 use Rattle.run_laws.specs.ItemRuns.{behind, from_here, go_on, run_of, RunsBehind, RunsGrow, RunsJoined}
+use Rattle.apl_model_laws.proofs.Behind.{steps_joined}
 
 -- ---- each of these does the same behind what was printed and ended before
 
@@ -116,12 +117,6 @@ runs_grow script items ending s =
     record { from = from; printed = ap (λ t. t.printed) same; ended = ap (λ t. t.ended) same }
 
 -- ---- items and others
-
-steps_joined : (xs ys : List Item) → filter_map step_of (xs ++ ys) ≡ filter_map step_of xs ++ filter_map step_of ys
-steps_joined [] ys = refl
-steps_joined (statement_item line s ∷ xs) ys = ap (λ l. statement_step line s ∷ l) (steps_joined xs ys)
-steps_joined (command_item line c ∷ xs) ys = ap (λ l. command_step c ∷ l) (steps_joined xs ys)
-steps_joined (definition_item d ∷ xs) ys = steps_joined xs ys
 
 module _ {T : Type 0} (flow_of : T → State → Outcome State Flow) (functions : List (List ℕ)) (report_of : ErrorKind → Place → List ℕ) where
   abbrev run : List (Step T) → Ending → State → Run State

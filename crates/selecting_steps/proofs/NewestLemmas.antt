@@ -1,5 +1,5 @@
 -- The newest entry of a stack, and what is below it.
-use Rattle.std.proofs.Common.{◌≡◌, ℕ, zero, suc, ◌+◌, ◌-◌, ◌<◌, ◌≤◌, Bool, true, false, List, [], ◌∷◌, ◌++◌, length, Some, None, refl, sym, ap, subst, ◌∙◌, arith}
+use Rattle.std.proofs.Common.{◌≡◌, ℕ, zero, suc, ◌+◌, ◌-◌, ◌<◌, ◌≤◌, Bool, true, false, List, [], ◌∷◌, ◌++◌, length, Some, refl, sym, ap, subst, ◌∙◌, arith}
 use Rattle.std.specs.Prelude.{IsTrue, slice_get, slice_index_or}
 use Rattle.std.proofs.lemmas.List.{append_assoc, map-append, length-append, length-map}
 use Rattle.std.proofs.Math.ListN.{get_or-append}
@@ -9,37 +9,26 @@ use Rattle.array_store.specs.Follows.{Follows, Holds, both, none}
 use Rattle.array_store.proofs.CountingLemmas.{follows-counted}
 use Rattle.array_store.proofs.FollowsLemmas.{follows_after, follows_counted}
 use Rattle.drag_along.specs.declared.leaves.Leaf.{Leaf}
-use Rattle.drag_along.specs.declared.nodes.Node.{Node}
-use Rattle.drag_along.specs.declared.nodes.Node.TheVariants.{Operand, One, Two}
-use Rattle.drag_along.specs.Nodes.{functions_in, pending_after}
 use Rattle.drag_along.specs.Segments.{SegmentView, IsSegment, leaf_segment}
-use Rattle.drag_along.specs.Meaning.{Meaning, Means, Faults, entry}
-use Rattle.drag_along.specs.Lawful.{IsLawful, IsLawfulLeaf, MeansWithin}
+use Rattle.drag_along.specs.Meaning.{Meaning, Means, entry}
+use Rattle.drag_along.specs.Lawful.{IsLawful, IsLawfulLeaf}
 use Rattle.drag_along.specs.Views.{only_leaf}
 use Rattle.drag_along.proofs.KeptLemmas.{follows_keeps}
 use Rattle.drag_along.proofs.OneLeafLemmas.{one_leaf_segment, one_leaf_means, one_leaf_lawful}
 use Rattle.leaf_names.specs.Variables.{array_of}
-use Rattle.value_stack.specs.Stacks.{named_on, entries, IsLawfulStack, MayFail, IsLeastOrNone}
+use Rattle.value_stack.specs.Stacks.{named_on, entries, IsLawfulStack}
 use Rattle.value_stack.proofs.EntriesLemmas.{stack_kept}
 use Rattle.pending_steps.specs.Shapes.{shapes_of, newest_shape, second_shape, IsArrayEntry}
 use Rattle.pending_steps.specs.Steps.{Moves}
-use Rattle.pending_steps.proofs.ArrayLemmas.{array_entry}
+use Rattle.pending_steps.proofs.ArrayLemmas.{safe_entry}
 use Rattle.pending_steps.proofs.EndLemmas.{end_shape}
 use Rattle.pending_steps.proofs.StepLemmas.{newest_lawful}
 use Rattle.selection_choices.specs.declared.choices.Choice.{Choice}
 use Rattle.selection_choices.specs.Choices.{chosen_meaning}
 use Rattle.selecting_steps.specs.Chosen.{ChoosesNewest, ChoosesSecond}
+use Rattle.value_stack.proofs.NewestLemmas.{entries_end, newest_at}
 
 -- ---- the newest entry
-
-get-end : (older : List SegmentView) (s : SegmentView) → slice_get (older ++ s ∷ []) (length older) ≡ Some s
-get-end [] s = refl
-get-end (b ∷ older) s = get-end older s
-
-pub newest_at : (stack older : List SegmentView) (s : SegmentView) → stack ≡ older ++ s ∷ [] → slice_get stack (length stack - 1) ≡ Some s
-newest_at stack older s is =
-    let long : length stack - 1 ≡ length older = omega (arith, ap (λ (xs : List SegmentView). length xs) is, length-append older (s ∷ [])) in
-    ap (λ (k : ℕ). slice_get stack k) long ∙ ap (λ (xs : List SegmentView). slice_get xs (length older)) is ∙ get-end older s
 
 pub newest_shape_is : (stack older : List SegmentView) (s : SegmentView) → stack ≡ older ++ s ∷ [] → newest_shape stack ≡ s.shape
 newest_shape_is stack older s is = end_shape stack (length stack - 1) s (newest_at stack older s is)
@@ -81,9 +70,6 @@ split (x ∷ y ∷ stack) s g =
     let rest : Split (y ∷ stack) s = split (y ∷ stack) s (sym (ap (λ (k : ℕ). slice_get (x ∷ y ∷ stack) k) next) ∙ g) in
     record { older = x ∷ rest.older; is = ap (λ (xs : List SegmentView). x ∷ xs) rest.is }
 
-pub entries_split : (store : StoreView) (stack older : List SegmentView) (s : SegmentView) → stack ≡ older ++ s ∷ [] → entries store stack ≡ entries store older ++ entry store s ∷ []
-entries_split store stack older s is = ap (entries store) is ∙ map-append (entry store) older (s ∷ [])
-
 -- where the shapes stay, these do
 pub newest_kept : (before after : List SegmentView) → shapes_of after ≡ shapes_of before → length after ≡ length before → newest_shape before ≡ newest_shape after
 newest_kept before after shapes long =
@@ -98,9 +84,6 @@ not_true : (b : Bool) → ¬ (IsTrue b) → b ≡ false
 not_true true h = absurd (h refl)
 not_true false h = refl
 
-pub safe_at : (stack : List SegmentView) (k : ℕ) (s : SegmentView) → IsLeastOrNone MayFail stack 0 None → slice_get stack k ≡ Some s → s.may_fail ≡ false
-safe_at stack k s none g = not_true s.may_fail (λ t. none k (omega arith) (s, g, t))
-
 -- the newest entry is this leaf
 pub record IsNewestLeaf (store : StoreView) (stack : List SegmentView) (leaf : Leaf) : Type 0 where
   pub older : List Meaning
@@ -113,37 +96,11 @@ newest_leaf store stack s leaf g h only lawful =
     let is : s ≡ leaf_segment leaf s.range = one_leaf_segment s leaf h only in
     record {
       older = entries store parts.older;
-      is = entries_split store stack parts.older s parts.is ∙ ap (λ (m : Meaning). entries store parts.older ++ m ∷ []) (one_leaf_means store s leaf h only);
+      is = entries_end store stack parts.older s parts.is ∙ ap (λ (m : Meaning). entries store parts.older ++ m ∷ []) (one_leaf_means store s leaf h only);
       lawful = ((one_leaf_lawful store leaf s.range).0 (subst (IsLawful store) is (newest_lawful store stack parts.older s parts.is lawful))).0;
     }
 
--- ---- an expression without functions is one leaf
-
-some_more : (nodes : List Node) (n m : ℕ) → functions_in nodes ≡ 0 → pending_after nodes n ≡ Some m → n + length nodes ≡ m
-some_more [] n m none p = omega (arith, same n m p)
-  where
-    same : (n m : ℕ) → Some n ≡ Some m → n ≡ m
-    same n m e = cc
-some_more (Operand leaf ∷ nodes) n m none p = omega (arith, some_more nodes (suc n) m none p)
-some_more (One f place ∷ nodes) n m none p = absurd (omega (arith, none))
-some_more (Two f place ∷ nodes) n m none p = absurd (omega (arith, none))
-
-pub leaf_alone : (nodes : List Node) → functions_in nodes ≡ 0 → pending_after nodes 0 ≡ Some 1 → only_leaf nodes ≡ None → ⊥
-leaf_alone [] none p only = absurd (omega (arith, some_more [] 0 1 none p))
-leaf_alone (Operand leaf ∷ []) none p only = absurd cc
-leaf_alone (Operand leaf ∷ x ∷ nodes) none p only = absurd (omega (arith, some_more (Operand leaf ∷ x ∷ nodes) 0 1 none p))
-leaf_alone (One f place ∷ nodes) none p only = absurd (omega (arith, none))
-leaf_alone (Two f place ∷ nodes) none p only = absurd (omega (arith, none))
-
 -- ---- what is made of it
-
--- an entry that can't fail means an array
-pub safe_entry : (store : StoreView) (s : SegmentView) → IsSegment s → IsLawful store s → s.may_fail ≡ false → IsArrayEntry store s
-safe_entry store s h l safe = by (entry store s) refl (l.sound safe)
-  where
-    by : (m : Meaning) → entry store s ≡ m → MeansWithin s.range m → IsArrayEntry store s
-    by (Means a) e w = array_entry store s a h e
-    by (Faults p) e w = elim w [ ]
 
 pub newest_chosen : (c : Choice) (store : StoreView) (before after older : List SegmentView) (s t : SegmentView) → before ≡ older ++ s ∷ [] → after ≡ older ++ t ∷ [] → IsSegment s → IsLawful store s → s.may_fail ≡ false → entry store t ≡ chosen_meaning c (entry store s) → ChoosesNewest c (newest_shape before) (entries store before) (entries store after)
 newest_chosen c store before after older s t was is h l safe means =
@@ -152,8 +109,8 @@ newest_chosen c store before after older s t was is h l safe means =
       older = entries store older;
       array = one.array;
       of_shape = record { shape = one.shape ∙ sym (newest_shape_is before older s was); complete = one.complete };
-      was = entries_split store before older s was ∙ ap (λ (m : Meaning). entries store older ++ m ∷ []) one.means;
-      is = entries_split store after older t is ∙ ap (λ (m : Meaning). entries store older ++ m ∷ []) (means ∙ ap (chosen_meaning c) one.means);
+      was = entries_end store before older s was ∙ ap (λ (m : Meaning). entries store older ++ m ∷ []) one.means;
+      is = entries_end store after older t is ∙ ap (λ (m : Meaning). entries store older ++ m ∷ []) (means ∙ ap (chosen_meaning c) one.means);
     }
 
 -- and of the one below, where it went

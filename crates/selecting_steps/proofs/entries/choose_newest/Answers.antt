@@ -1,6 +1,7 @@
 use Rattle.std.proofs.lemmas.Result.{IfOk-weaker}
 use Rattle.pending_steps.proofs.StepLemmas.{newest_lawful, older_lawful, pushed_lawful}
-use Rattle.selecting_steps.proofs.NewestLemmas.{newest_at, newest_chosen}
+use Rattle.selecting_steps.proofs.NewestLemmas.{newest_chosen}
+use Rattle.value_stack.proofs.NewestLemmas.{newest_at}
 use Rattle.selecting_steps.proofs.entries.choose_newest.Goals as goal
 
 pub returns-clause-chosen : goal.returns-clause-chosen

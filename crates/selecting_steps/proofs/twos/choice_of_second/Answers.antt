@@ -9,7 +9,8 @@ use Rattle.leaf_names.specs.Variables.{array_of}
 use Rattle.pending_steps.proofs.EndLemmas.{end_shape}
 use Rattle.selection_choices.specs.declared.choices.Choice.{Choice}
 use Rattle.selection_choices.specs.Choices.{Errs, ChoosesOrTakesMore}
-use Rattle.selecting_steps.proofs.NewestLemmas.{leaf_alone, newest_leaf, fetched_stays}
+use Rattle.selecting_steps.proofs.NewestLemmas.{newest_leaf, fetched_stays}
+use Rattle.drag_along.proofs.FirstLemmas.{leaf_alone}
 use Rattle.selecting_steps.proofs.twos.choice_of_second.Goals as goal
 
 pub unreachable-requires : goal.unreachable-requires

@@ -1,4 +1,4 @@
-use Rattle.selecting_steps.proofs.NewestLemmas.{safe_at}
+use Rattle.value_stack.proofs.NewestLemmas.{safe_at}
 use Rattle.selecting_steps.proofs.twos.make_ready.Goals as goal
 
 pub returns-in_ok-settle_entries-clause-safe : goal.returns-in_ok-settle_entries-clause-safe
