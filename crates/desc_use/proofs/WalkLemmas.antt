@@ -32,9 +32,6 @@ along_turn before after old x from step n h e f =
 pub product_fits : (from p : ℤ) → IsNumber from → IsNumber (from +ℤ p) → FitsSigned w128 p
 product_fits from p h k = omega (arith, ints, h.least, h.most, k.least, k.most)
 
-pub number_fits : (z : ℤ) → IsNumber z → FitsSigned w128 z
-number_fits z h = omega (arith, ints, h.least, h.most)
-
 pub first_is : (from step : ℤ) → IsNumber (from +ℤ (step *ℤ pos 0)) → IsNumber from
 first_is from step h = let e : from +ℤ (step *ℤ pos 0) ≡ from = omega (arith, ints, *ℤ-zero step) in subst IsNumber e h
 
