@@ -4,3 +4,4 @@ pub mod ScriptLemmas
 pub mod WordLemmas
 pub mod EndingLemmas
 pub mod ValueLemmas
+pub mod WorkedLemmas

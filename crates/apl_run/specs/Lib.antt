@@ -3,3 +3,4 @@ pub mod Statuses
 pub mod Traces
 pub mod Endings
 pub mod Workspaces
+pub mod Worked
