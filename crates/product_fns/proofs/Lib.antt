@@ -7,5 +7,6 @@ pub mod RowLemmas
 pub mod GroupLemmas
 pub mod AnswerLemmas
 mod LineLemmas
+mod PairLemmas
 mod InnerLemmas
 mod InnerAnswers

@@ -62,8 +62,8 @@ fn fold_row<R: ScalarRow<Arguments = (Elem, Elem)>>(
     Some(value)
 }
 
-// The value at two elements, by no more than the function's laws.
-fn value_of<R: ScalarRow<Arguments = (Elem, Elem)>>(a: Elem, b: Elem) -> Option<Elem>
+/// The value at two elements, by no more than the function's laws.
+pub(crate) fn value_of<R: ScalarRow<Arguments = (Elem, Elem)>>(a: Elem, b: Elem) -> Option<Elem>
     requires arguments { (x : Elem × Elem) → R.elements x ≡ x.0 ∷ x.1 ∷ [] }
     requires left { IsCell a.kind a.cell }
     requires right { IsCell b.kind b.cell }

@@ -1,14 +1,20 @@
-use Rattle.std.proofs.Common.{◌∙◌, arith}
-use Rattle.product_fns.proofs.LineLemmas.{product_defined, product_undefined}
+use Rattle.product_fns.proofs.PairLemmas.{row_is}
 use Rattle.product_fns.proofs.lines.product.Goals as goal
 
-pub returns-in-Some-clause-exact : goal.returns-in-Some-clause-exact
-returns-in-Some-clause-exact c =
-    product_undefined c.args.f c.args.g c.args.left_kind c.args.right_kind c.args.left.now c.args.right.now c.copy_from_slice.new.self c.apply2_column.new.right c.apply2_column.result c.in-Some.field-0 c.copy_from_slice.ensures.after
-    (omega (arith, c.apply2_column.auto.right, c.copy_from_slice.ensures.len, c.requires.buffer)) c.in-Some.is c.apply2_column.ensures.values
+pub returns-in-Add-Mul-clause-exact : goal.returns-in-Add-Mul-clause-exact
+returns-in-Add-Mul-clause-exact c = c.product_at_once.ensures.exact c.args.f c.args.g (row_is _ _ c.in-Add-Mul.is-0) (row_is _ _ c.in-Add-Mul.is-1)
 
-pub returns-clause-exact : goal.returns-clause-exact
-returns-clause-exact c =
-    c.reduce_numbers.ensures.exact
-    ∙ product_defined c.args.f c.args.g c.args.left_kind c.args.right_kind c.args.left.now c.args.right.now c.copy_from_slice.new.self c.apply2_column.new.right c.apply2_column.result c.copy_from_slice.ensures.after
-    (omega (arith, c.apply2_column.auto.right, c.copy_from_slice.ensures.len, c.requires.buffer)) c.in_default.is c.apply2_column.ensures.values
+pub returns-in-Add-Eq-clause-exact : goal.returns-in-Add-Eq-clause-exact
+returns-in-Add-Eq-clause-exact c = c.product_at_once-in-Add-Eq.ensures.exact c.args.f c.args.g (row_is _ _ c.in-Add-Eq.is-0) (row_is _ _ c.in-Add-Eq.is-1)
+
+pub returns-in-Or-And-clause-exact : goal.returns-in-Or-And-clause-exact
+returns-in-Or-And-clause-exact c = c.product_at_once-in-Or-And.ensures.exact c.args.f c.args.g (row_is _ _ c.in-Or-And.is-0) (row_is _ _ c.in-Or-And.is-1)
+
+pub returns-in-And-Eq-clause-exact : goal.returns-in-And-Eq-clause-exact
+returns-in-And-Eq-clause-exact c = c.product_at_once-in-And-Eq.ensures.exact c.args.f c.args.g (row_is _ _ c.in-And-Eq.is-0) (row_is _ _ c.in-And-Eq.is-1)
+
+pub returns-in-Max-Add-clause-exact : goal.returns-in-Max-Add-clause-exact
+returns-in-Max-Add-clause-exact c = c.product_at_once-in-Max-Add.ensures.exact c.args.f c.args.g (row_is _ _ c.in-Max-Add.is-0) (row_is _ _ c.in-Max-Add.is-1)
+
+pub returns-in-Min-Add-clause-exact : goal.returns-in-Min-Add-clause-exact
+returns-in-Min-Add-clause-exact c = c.product_at_once-in-Min-Add.ensures.exact c.args.f c.args.g (row_is _ _ c.in-Min-Add.is-0) (row_is _ _ c.in-Min-Add.is-1)
