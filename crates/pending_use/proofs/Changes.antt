@@ -1,15 +1,13 @@
 -- A stack on which entries go and others come, the newest ones.
-use Rattle.std.proofs.Common.{◌≡◌, ℕ, ◌*◌, ◌≤◌, List, [], ◌∷◌, ◌++◌, length, refl, sym, ap, ◌∙◌, subst, arith}
-use Rattle.std.specs.List.{AllByRecursion}
+use Rattle.std.proofs.Common.{◌≡◌, List, [], ◌∷◌, ◌++◌, refl, sym, ap, ◌∙◌, subst, arith}
 use Rattle.std.proofs.lemmas.List.{append-nil}
 use Rattle.std.proofs.lemmas.List.Sums.{sum_by-cons}
 use Rattle.array_store.specs.Stores.{StoreView}
 use Rattle.array_store.specs.Follows.{LeafCounts, Follows, both, none}
 use Rattle.array_store.proofs.FollowsLemmas.{follows_counted}
-use Rattle.drag_along.specs.Segments.{SegmentView, IsSegment, named_by}
+use Rattle.drag_along.specs.Segments.{SegmentView, named_by}
 use Rattle.drag_along.specs.Meaning.{Meaning, entry}
 use Rattle.drag_along.specs.Lawful.{IsLawful}
-use Rattle.drag_along.proofs.OneLeafLemmas.{named_at_most}
 use Rattle.value_stack.specs.Stacks.{named_on, entries, IsLawfulStack, IsReplaced}
 use Rattle.value_stack.proofs.EntriesLemmas.{replaced, pushed_stack}
 use Rattle.pending_use.specs.Uses.{Stands, Becomes}
@@ -60,9 +58,3 @@ pushed old new before after s m is follows lawful means =
     subst (λ (x : Meaning). Becomes old new before after (entries old before ++ x ∷ [])) means
     (becomes old new before after before (s ∷ []) is (λ beside stands.
     pushed_stack old new before s none none beside stands.lawful (λ key. omega (arith, stands.held key)) counted lawful))
-
--- 65 leaves an entry at most name an owner
-pub few_named : (stack : List SegmentView) (key : ℕ) → AllByRecursion IsSegment stack → named_on stack key ≤ 65 * length stack
-few_named [] key all = omega arith
-few_named (g ∷ stack) key all =
-    omega (arith, sum_by-cons (λ (x : SegmentView). named_by x key) g stack, named_at_most g key all.0, few_named stack key all.1)

@@ -7,7 +7,8 @@ use Rattle.drag_along.specs.Nodes.{named_by_leaf}
 use Rattle.drag_along.specs.Segments.{leaf_segment, named_by}
 use Rattle.drag_along.specs.Meaning.{Means, leaf_array}
 use Rattle.drag_along.proofs.OneLeafLemmas.{one_leaf_lawful, one_leaf_means}
-use Rattle.pending_use.proofs.Changes.{pushed, stayed, few_named}
+use Rattle.pending_use.proofs.Changes.{pushed, stayed}
+use Rattle.value_stack.proofs.NewestLemmas.{few_named}
 use Rattle.pending_use.proofs.entries.push_again.Goals as goal
 
 pub held-held-requires-clause-holders : goal.held-held-requires-clause-holders
