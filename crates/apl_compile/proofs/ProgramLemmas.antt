@@ -17,7 +17,7 @@ use Rattle.apl_model.specs.Tree.{BodyLine, Definition, Item, Script, Statement, 
 use Rattle.apl_model.specs.declared.tokens.Line.{Line}
 use Rattle.apl_compile.specs.declared.codes.Code.{Code}
 use Rattle.apl_compile.specs.Execution.{stopping}
-use Rattle.apl_compile.specs.Laws.{tree_meaning, CodeDoes, StatementCodeDoes, ProgramDoes, ImmediateIsRun, OneReport, ReportsOfOutline}
+use Rattle.apl_compile.specs.Laws.{tree_meaning, CodeDoes, StatementCodeDoes, ProgramDoes, ImmediateIsRun, OneReport, SameLines, ReportsOfOutline}
 use Rattle.apl_compile.specs.Program.{outline_of, outline_item, outline_body, outline_line, compiled, codes_of}
 use Rattle.apl_compile.specs.Running.{lines_with, routines_from, steps_from, function_of, line_text_in, prefix_from, report_in, code_meaning}
 use Rattle.apl_compile.proofs.CodeLemmas.{code_does, statement_does}
@@ -59,6 +59,9 @@ pub reports_of_outline : ReportsOfOutline
 reports_of_outline script kind place =
     ap (λ p. report_text kind p (line_text_in (outline_of script).lines place.line) place.column) (prefix-outline script.items place.line)
     ∙ ap (λ t. report_text kind (prefix_in place.line (definitions_of script.items)) (unwrap_or t []) place.column) (find-outline script.lines place.line)
+
+pub same_lines : SameLines
+same_lines script other same = ap (λ p. p.outline.lines) same
 
 pub one_report : OneReport
 one_report script other kind place same =

@@ -13,7 +13,7 @@ use Rattle.apl_compile.specs.declared.codes.Code.{Code}
 use Rattle.apl_compile.specs.declared.codes.Instruction.{Instruction}
 use Rattle.apl_compile.specs.Code.{expression_code, code_on}
 use Rattle.apl_compile.specs.Execution.{goes_on, exec, code_flow}
-use Rattle.apl_compile.specs.Program.{compiled, program_of}
+use Rattle.apl_compile.specs.Program.{compiled, outline_line, program_of}
 use Rattle.apl_compile.specs.Running.{report_in, routines_in, run_program, steps_in}
 
 -- the code of an expression, with any code after it, does what the expression does, and goes on with its value
@@ -44,6 +44,10 @@ ProgramDoes S V = (M : States S V) (values : CallsOf S V → Values S V) (script
 -- immediate evaluation of a script is the run of its compiled program over arrays
 abbrev pub ImmediateIsRun : Type 0
 ImmediateIsRun = (script : Script) (n : ℕ) → told (run_program of_states of_arrays (program_of script) (beginning n)) ≡ immediate script n
+
+-- scripts with one compiled program have the same lines, each with its number and text
+abbrev pub SameLines : Type 0
+SameLines = (script other : Script) → program_of script ≡ program_of other → map outline_line script.lines ≡ map outline_line other.lines
 
 -- scripts with one compiled program have the same reports
 abbrev pub OneReport : Type 0

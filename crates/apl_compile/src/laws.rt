@@ -1,6 +1,6 @@
 //! The laws of code: each function does nothing, and its contract is the law.
 
-ghost use Rattle.apl_compile.specs.Laws.{CodeDoes, StatementCodeDoes, ProgramDoes, ImmediateIsRun, ReportsOfOutline, OneReport, RoutinesAreCoded, StepsAreCoded, CodesAreInOrder};
+ghost use Rattle.apl_compile.specs.Laws.{CodeDoes, StatementCodeDoes, ProgramDoes, ImmediateIsRun, ReportsOfOutline, OneReport, SameLines, RoutinesAreCoded, StepsAreCoded, CodesAreInOrder};
 ghost use Rattle.apl_compile.specs.Lawful.{StatementsAreLawful, LawfulCodeHasOperands};
 
 /// The code of an expression, with any code after it, does what the expression does and goes on with its value; the
@@ -27,8 +27,10 @@ pub fn immediate_is_run()
     ensures { ImmediateIsRun }
 {}
 
-/// The reports of a script are told by the outline of its program, so scripts with one program have the same reports.
+/// The reports of a script are told by the outline of its program, so scripts with one program have the same lines and
+/// reports.
 pub fn one_report()
+    ensures lines { SameLines }
     ensures outline { ReportsOfOutline }
     ensures same { OneReport }
 {}
